@@ -1,0 +1,4 @@
+pub mod Order
+pub mod Tasks
+pub mod Nodes
+pub mod Whole

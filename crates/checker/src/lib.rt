@@ -1,0 +1,276 @@
+// The checker: whether words are a well-formed arena. One walk down the tree in the order of its keys, then the free chain.
+// It only reads, ends on any words, and meets at most as many nodes as there are.
+use inspect::Last;
+use inspect::Visit;
+use inspect::above;
+use inspect::chain;
+use inspect::marked;
+use inspect::own;
+use model::Answer;
+use node::HEADER;
+use node::NONE;
+use node::NodeNo;
+use node::Place;
+use node::WORDS;
+use node::edge;
+use node::key;
+use node::len;
+ghost use mathlib.Core.Path.{_≡_};
+ghost use Prim.Native.Nat.{_<_, _≤_};
+ghost use lib.ListN.{length};
+ghost use Rattle.model.specs.Layout.{Sized, most};
+ghost use Rattle.model.specs.State as model;
+ghost use Rattle.model.specs.WellFormed.{WellFormed, rootFewest};
+ghost use Rattle.model.specs.Promise.{Call};
+ghost use Rattle.node.specs.Reading.{Within};
+ghost use Rattle.inspect.specs.Tests.{Decides, reached};
+ghost use Rattle.checker.specs.Walks.{Said, keyTask, keysTask, childOf, edgesTask, nodeTask};
+ghost use Rattle.checker.specs.Whole.{Heading, tree, start, Finished};
+
+// The header's words.
+const FORMAT: usize = 0;
+
+const COUNT: usize = 1;
+
+const OFFSET: usize = 2;
+
+const ROOT: usize = 3;
+
+const HEIGHT: usize = 4;
+
+const PAIRS: usize = 5;
+
+const FIRST_FREE: usize = 6;
+
+const FREE: usize = 7;
+
+const SEEN: usize = 8;
+
+const MARK: usize = 9;
+
+// The pairs that a node below the root holds at least.
+const LEAST: usize = 5;
+
+// No well-formed tree is higher: so many nodes do not fit.
+const HIGHEST: u64 = 6;
+
+const LARGEST: u64 = 65_535;
+
+// What is left to be met, nodes and pairs, and the last key. It falls, so that hostile words cost no more than the nodes there are.
+pub struct Walk {
+    pub nodes: usize,
+    pub pairs: usize,
+    pub last: Last,
+}
+
+pub enum Checked {
+    Bad,
+    Good(Walk),
+}
+
+// Passes one pair.
+fn pass_key(w: Walk, key: u64) -> Checked
+    ensures { λ r. ⌜ Said (keyTask key) w r ⌝ }
+{
+    let last = w.last;
+    if w.pairs == 0 {
+        return Checked::Bad;
+    }
+    if !above(last, key) {
+        return Checked::Bad;
+    }
+    Checked::Good(Walk {
+        nodes: w.nodes,
+        pairs: w.pairs - 1,
+        last: Last::After(key),
+    })
+}
+
+// The n keys of a leaf.
+fn check_keys(a: &[u64], node: NodeNo, n: usize, before: Walk) -> Checked
+    requires { ⌜ Within (now a) (node .0) × (n ≤ most) ⌝ }
+    ensures { λ r. ⌜ Said (keysTask (now (a .entry)) (node .0) n) before r ⌝ }
+{
+    let mut w = before;
+    let mut i = 0;
+    while i < n {
+        match pass_key(w, key(a, node, Place(i))) {
+            Checked::Bad => return Checked::Bad,
+            Checked::Good(v) => {
+                w = v;
+            }
+        }
+        i += 1;
+    }
+    Checked::Good(w)
+}
+
+// The node that an edge leads to, one level lower.
+fn child(a: &[u64], node: NodeNo, at: Place, below: usize) -> Visit
+    requires { ⌜ Within (now a) (node .0) × (at .0 ≤ most) ⌝ }
+    ensures { λ r. ⌜ reached r ≡ childOf (now (a .entry)) below (node .0) (at .0) ⌝ }
+{
+    Visit {
+        below,
+        fewest: LEAST,
+        node: edge(a, node, at),
+        parent: node.0 as u64,
+        place: at,
+    }
+}
+
+// A node is sound when its edges are.
+fn check_node(a: &[u64], count: usize, v: Visit, before: Walk) -> Checked
+    requires { ⌜ Sized count (length (now a)) ⌝ }
+    ensures { λ r. ⌜ Said (nodeTask (now (a .entry)) count (reached v)) before r ⌝ }
+{
+    if before.nodes == 0 {
+        return Checked::Bad;
+    }
+    if !own(a, count, v) {
+        return Checked::Bad;
+    }
+    let last = before.last;
+    let w = Walk {
+        nodes: before.nodes - 1,
+        pairs: before.pairs,
+        last,
+    };
+    let node = v.node;
+    let n = len(a, node);
+    if v.below == 0 {
+        return check_keys(a, node, n, w);
+    }
+    check_edges(a, count, node, n, v.below - 1, w)
+}
+
+// An edge is sound when the node below is; the keys stand between the edges.
+fn check_edges(
+    a: &[u64],
+    count: usize,
+    node: NodeNo,
+    n: usize,
+    below: usize,
+    before: Walk,
+) -> Checked
+    requires { ⌜ Sized count (length (now a)) × (node .0 < count) × (n ≤ most) ⌝ }
+    ensures { λ r. ⌜ Said (edgesTask (now (a .entry)) count below (node .0) n) before r ⌝ }
+{
+    let mut w = before;
+    let mut i = 0;
+    while i < n {
+        match check_node(a, count, child(a, node, Place(i), below), w) {
+            Checked::Bad => return Checked::Bad,
+            Checked::Good(v) => match pass_key(v, key(a, node, Place(i))) {
+                Checked::Bad => return Checked::Bad,
+                Checked::Good(u) => {
+                    w = u;
+                }
+            },
+        }
+        i += 1;
+    }
+    check_node(a, count, child(a, node, Place(n), below), w)
+}
+
+// The fewest pairs of a root.
+fn root_fewest(height: usize) -> usize
+    ensures { λ r. ⌜ r ≡ rootFewest height ⌝ }
+{
+    if height == 0 { 0 } else { 1 }
+}
+
+// Whether the header's first words are right, the height not too high and the free nodes not too many.
+fn heading(a: &[u64]) -> bool
+    ensures { λ r. ⌜ Decides r (Heading (now (a .entry))) ⌝ }
+{
+    if a.len() < HEADER {
+        return false;
+    }
+    if a[FORMAT] != 1 {
+        return false;
+    }
+    let count = a[COUNT];
+    if count == 0 {
+        return false;
+    }
+    if count > LARGEST {
+        return false;
+    }
+    if a.len() != HEADER + WORDS * count as usize {
+        return false;
+    }
+    if a[OFFSET] != HEADER as u64 {
+        return false;
+    }
+    if a[HEIGHT] > HIGHEST {
+        return false;
+    }
+    if a[FREE] > count {
+        return false;
+    }
+    true
+}
+
+// Whether the walk met all nodes and pairs, and the free chain and the mark are right.
+fn finished(a: &[u64], end: Walk) -> bool
+    requires { ⌜ Heading (now a) ⌝ }
+    ensures { λ r. ⌜ Decides r (Finished (now (a .entry)) end) ⌝ }
+{
+    let last = end.last;
+    if end.nodes != 0 {
+        return false;
+    }
+    if end.pairs != 0 {
+        return false;
+    }
+    if !chain(a, a[COUNT] as usize, a[FIRST_FREE], a[FREE]) {
+        return false;
+    }
+    marked(a[SEEN], a[MARK], last)
+}
+
+// The walk over the whole tree, from the root on.
+fn walk_tree(a: &[u64]) -> Checked
+    requires { ⌜ Heading (now a) ⌝ }
+    ensures { λ r. ⌜ Said (tree (now (a .entry))) (start (now (a .entry))) r ⌝ }
+{
+    let count = a[COUNT] as usize;
+    let height = a[HEIGHT] as usize;
+    let root = Visit {
+        below: height,
+        fewest: root_fewest(height),
+        node: NodeNo(a[ROOT] as usize),
+        parent: NONE,
+        place: Place(0),
+    };
+    let start = Walk {
+        nodes: count - a[FREE] as usize,
+        pairs: a[PAIRS] as usize,
+        last: Last::Start,
+    };
+    check_node(a, count, root, start)
+}
+
+// Whether the words are a well-formed arena.
+pub fn well_formed(a: &[u64]) -> bool
+    ensures { λ r. ⌜ Decides r (WellFormed (now (a .entry))) ⌝ }
+{
+    if !heading(a) {
+        return false;
+    }
+    match walk_tree(a) {
+        Checked::Bad => false,
+        Checked::Good(end) => finished(a, end),
+    }
+}
+
+// Answers Done for a well-formed arena, BadArena for any other words.
+pub fn check(a: &[u64]) -> Answer
+    ensures { λ r. ⌜ Call model.check (now (a .entry)) (now (a .entry)) r ⌝ }
+{
+    if well_formed(a) {
+        return Answer::Done;
+    }
+    Answer::BadArena
+}

@@ -1,0 +1,216 @@
+// Runs the checker on arenas damaged in one word at a time, for every word of a formatted arena and of a tree of three nodes with two
+// free ones, and on three arenas that are wrong in one count alone; and formatting at every length. It prints each answer's number:
+// docs/oracle/damage.py says how the stored list was made.
+use checker::check;
+use format::format;
+use model::Answer;
+use node::NONE;
+use slices::clear;
+ghost use mathlib.Core.Path.{_≡_};
+ghost use Prim.Native.Nat.{_+_, _<_, _≤_};
+ghost use lib.ListN.{length};
+
+// The words of five nodes.
+const LONG: usize = 200;
+
+// How many values each word is damaged with.
+const KINDS: usize = 14;
+
+fn digit(r: Answer) -> u8 {
+    match r.number() {
+        0 => b'0',
+        4 => b'4',
+        7 => b'7',
+        _ => b'?',
+    }
+}
+
+// The value with which damage number j replaces v.
+fn wrong(v: u64, j: usize) -> u64 {
+    match j {
+        0 => std::num::wrapping_add_u64(v, 1),
+        1 => std::num::wrapping_sub_u64(v, 1),
+        2 => 0,
+        3 => 1,
+        4 => 2,
+        5 => 3,
+        6 => 4,
+        7 => 5,
+        8 => 6,
+        9 => 7,
+        10 => 11,
+        11 => 12,
+        12 => NONE,
+        _ => 18_446_744_073_709_551_615,
+    }
+}
+
+// The answers for the arena with its word i damaged in each way; the word is then what it was.
+fn damage(a: &mut [u64], i: usize)
+    requires { ⌜ i < length (now a) ⌝ }
+{
+    let v = a[i];
+    let mut line = [b'\n'; 15];
+    let mut j = 0;
+    while j < KINDS {
+        a[i] = wrong(v, j);
+        line[j] = digit(check(a));
+        j += 1;
+    }
+    a[i] = v;
+    io::write_all(1, &line);
+}
+
+// The word that a byte of a table stands for: 255 for NONE.
+fn word(x: u8) -> u64 {
+    if x == 255 { NONE } else { x as u64 }
+}
+
+// The words of a table, from `at` on.
+fn lay(a: &mut [u64], at: usize, t: &[u8])
+    requires { ⌜ at + length (now t) ≤ length (now a) ⌝ }
+{
+    let mut i = 0;
+    while i < t.len() {
+        a[at + i] = word(t[i]);
+        i += 1;
+    }
+}
+
+// The header from the root's number on, and the free nodes 2 and 1.
+fn head(a: &mut [u64])
+    requires { ⌜ length (now a) ≡ 200 ⌝ }
+{
+    lay(a, 3, &[3, 1, 12, 2, 2, 1, 12]);
+    lay(a, 50, &[255]);
+    lay(a, 88, &[1]);
+}
+
+// 7 in node 3, between nodes 0 and 4.
+fn root(a: &mut [u64])
+    requires { ⌜ length (now a) ≡ 200 ⌝ }
+{
+    lay(a, 124, &[2, 1, 255, 0, 7]);
+    lay(a, 139, &[107]);
+    lay(a, 150, &[0, 4]);
+}
+
+// 1-6 in node 0, 8-12 in node 4.
+fn leaves(a: &mut [u64])
+    requires { ⌜ length (now a) ≡ 200 ⌝ }
+{
+    lay(a, 10, &[1, 6, 3, 0, 1, 2, 3, 4, 5, 6]);
+    lay(a, 25, &[101, 102, 103, 104, 105, 106]);
+    lay(a, 162, &[1, 5, 3, 1, 8, 9, 10, 11, 12]);
+    lay(a, 177, &[108, 109, 110, 111, 112]);
+}
+
+// Formats words that are no arena at every length up to theirs, each time followed by a check: two answers a line.
+fn sizes(a: &mut [u64])
+    requires { ⌜ length (now a) ≡ 200 ⌝ }
+{
+    let mut k = 0;
+    while k <= LONG {
+        let f = digit(format(&mut a[0..k]));
+        let c = digit(check(&a[0..k]));
+        io::write_all(1, &[f, c, b'\n']);
+        k += 1;
+    }
+}
+
+// Each word, with a space after it.
+fn words(a: &[u64]) {
+    let mut i = 0;
+    while i < a.len() {
+        io::print_decimal(1, a[i]);
+        io::write_all(1, b" ");
+        i += 1;
+    }
+    io::write_all(1, b"\n");
+}
+
+// The answers for each word.
+fn every_word(a: &mut [u64]) {
+    let mut i = 0;
+    while i < a.len() {
+        damage(a, i);
+        i += 1;
+    }
+}
+
+// The answer for the arena as it is.
+fn say(a: &[u64]) {
+    let c = digit(check(a));
+    io::write_all(1, &[c, b'\n']);
+}
+
+// A leaf of 4 pairs, all else true of it.
+fn short_leaf(a: &mut [u64])
+    requires { ⌜ length (now a) ≡ 200 ⌝ }
+{
+    lay(a, 5, &[11]);
+    lay(a, 163, &[4]);
+    lay(a, 170, &[0]);
+    lay(a, 181, &[0]);
+    say(a);
+}
+
+// Node 1 neither reached nor in the chain.
+fn lost_node(a: &mut [u64])
+    requires { ⌜ length (now a) ≡ 200 ⌝ }
+{
+    lay(a, 6, &[2, 1]);
+    lay(a, 88, &[255]);
+    say(a);
+}
+
+// The internal root empty, over node 0 alone; node 4 is free.
+fn empty_root(a: &mut [u64])
+    requires { ⌜ length (now a) ≡ 200 ⌝ }
+{
+    clear(&mut a[124..200]);
+    lay(a, 5, &[6, 2, 3]);
+    lay(a, 50, &[4]);
+    lay(a, 124, &[2, 0, 255]);
+    lay(a, 164, &[255]);
+    say(a);
+}
+
+// The tree of three nodes.
+fn tree(a: &mut [u64])
+    requires { ⌜ length (now a) ≡ 200 ⌝ }
+{
+    head(a);
+    root(a);
+    leaves(a);
+}
+
+// The two formatted arenas.
+fn formats() {
+    let mut two = [7; 86];
+    format(&mut two);
+    words(&two);
+    let mut one = [7; 48];
+    format(&mut one);
+    every_word(&mut one);
+}
+
+// The three arenas that are wrong in one count.
+fn counts(a: &mut [u64])
+    requires { ⌜ length (now a) ≡ 200 ⌝ }
+{
+    short_leaf(a);
+    tree(a);
+    lost_node(a);
+    tree(a);
+    empty_root(a);
+}
+
+fn main() {
+    formats();
+    let mut a = [7; 200];
+    sizes(&mut a);
+    tree(&mut a);
+    every_word(&mut a);
+    counts(&mut a);
+}

@@ -1,0 +1,23 @@
+-- `inspect::own_free` meets its contract.
+-- Assumes nothing.
+use Rattle.inspect.proofs.Decisions.{decided, refuted, decides-as}
+use borrow.Author.Needs.{needs}
+use Rattle.inspect.proofs.own_free.Statement.{statement}
+use Rattle.inspect.proofs.own_free.Tie as tie
+
+zeros-requires : tie.Need-zeros-requires
+zeros-requires c κs = search needs
+
+returns : tie.Need-returns
+returns c = λ f. refuted (c .before .zeros .result) (c .before .zeros .ensures) (c .if1 .taken) (f .before-link)
+
+zeros-requires-2 : tie.Need-zeros-requires-2
+zeros-requires-2 c κs = search needs
+
+returns-2 : tie.Need-returns-2
+returns-2 c =
+    let z = c .before .before .zeros in
+    decides-as (c .zeros2 .result) (λ t. record { before-link = decided (z .result) (z .ensures) (c .before .if1 .left); after-link = t }) (λ f. f .after-link) (c .zeros2 .ensures)
+
+pub own-free-spec : {M : Type 1} → statement M
+own-free-spec = tie.close (tie.spec zeros-requires returns zeros-requires-2 returns-2)

@@ -1,0 +1,27 @@
+-- What the tests decide, beside what the model says of the words.
+-- Assumes nothing.
+use Prim.Native.Nat.{ℕ, _≤_, _<_}
+use mathlib.Core.Path.{_≡_}
+use mathlib.Core.Bool.{Bool, true, false}
+use Rattle.model.specs.WellFormed.{Reached}
+use Rattle.inspect.specs.declared.Visit.{Visit}
+use Rattle.inspect.specs.declared.Last.{Last}
+use Rattle.inspect.specs.declared.Last.the-variants.{Start, After}
+
+-- true exactly where P holds
+abbrev pub Decides : Bool → Type 0 → Type 0
+Decides true P = P
+Decides false P = P → ⊥
+
+abbrev pub reached : Visit → Reached
+reached v = record { below = v .below; fewest = v .fewest; node = v .node .0; parent = v .parent; place = v .place .0 }
+
+-- the key k may come next
+abbrev pub Above : Last → ℕ → Type 0
+Above Start k = Unit {0}
+Above (After x) k = x < k
+
+-- mark seen and mark, by the last of all keys
+abbrev pub Marked : ℕ → ℕ → Last → Type 0
+Marked seen mark Start = (seen ≤ 1) × (seen ≡ 0 → mark ≡ 0)
+Marked seen mark (After k) = (seen ≡ 1) × (k ≤ mark)

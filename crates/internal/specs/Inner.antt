@@ -1,0 +1,71 @@
+-- A pair and an edge put into an internal node, and a level put on the tree or taken off: what the nodes and the header become.
+-- Assumes nothing.
+use Prim.Native.Nat.{ℕ, _+_, _-_, _≤_, _<_}
+use mathlib.Core.Path.{_≡_}
+use mathlib.Core.List.{List, [], _∷_}
+use lib.ListN.{length, getD, set}
+use Rattle.model.specs.Lists.{All, insertAt}
+use Rattle.model.specs.Tree.{Pair}
+use Rattle.model.specs.Layout.{none, header, rootWord, heightWord, largestCount, internal, NodeVal, nth}
+use Rattle.store.specs.Links.{withBody, withEdges, fresh, firstFree, freeNodes, takeHead, returnHead, returnNode, link, relinkFrom, TakeReady}
+use Rattle.leaf.specs.Pairs.{RoomAt}
+
+-- an internal node has an edge more than pairs, and each leads to a node
+pub record Branches (ns : List NodeVal) (n : ℕ) : Type 0 where
+  pub state-is : nth ns n .state ≡ internal
+  pub edges-are : length (nth ns n .edges) ≡ length (nth ns n .pairs) + 1
+  pub lead : All (λ (c : ℕ). c < length ns) (nth ns n .edges)
+
+-- ---- a pair put in at the edge i, and an edge right of it
+
+abbrev pub fitBodies : List NodeVal → ℕ → ℕ → Pair → ℕ → List NodeVal
+fitBodies ns n i p c = set ns n (withBody (nth ns n) (insertAt (nth ns n .pairs) i p) (insertAt (nth ns n .edges) (i + 1) c))
+
+unfoldable pub fitNodes : List NodeVal → ℕ → ℕ → Pair → ℕ → List NodeVal
+fitNodes ns n i p c = relinkFrom (fitBodies ns n i p c) n (i + 1)
+
+pub record FitReady (ns : List NodeVal) (n i c : ℕ) : Type 0 where
+  pub room : RoomAt ns n i
+  pub branches : Branches ns n
+  pub child : c < length ns
+
+-- ---- a level
+
+abbrev pub rootOf : List ℕ → ℕ
+rootOf h = header h rootWord
+
+abbrev pub heightOf : List ℕ → ℕ
+heightOf h = header h heightWord
+
+abbrev pub withRoot : List ℕ → ℕ → ℕ → List ℕ
+withRoot h root height = set (set h rootWord root) heightWord height
+
+-- put on: a new root above the old one, which is its only edge
+unfoldable pub pushNodes : List ℕ → List NodeVal → List NodeVal
+pushNodes h ns = link (set ns (firstFree h) (withEdges (fresh internal) (rootOf h ∷ []))) (rootOf h) (firstFree h) 0
+
+abbrev pub pushHead : List ℕ → List NodeVal → List ℕ
+pushHead h ns = withRoot (takeHead h ns) (firstFree h) (heightOf h + 1)
+
+pub record PushReady (h : List ℕ) (ns : List NodeVal) : Type 0 where
+  pub take : TakeReady h ns
+  pub root : rootOf h < length ns
+  pub height : heightOf h < largestCount
+
+-- taken off: the root, which has no pairs and one edge, is returned, and its child is the root
+abbrev pub onlyChild : List ℕ → List NodeVal → ℕ
+onlyChild h ns = getD (nth ns (rootOf h) .edges) 0 0
+
+unfoldable pub popNodes : List ℕ → List NodeVal → List NodeVal
+popNodes h ns = returnNode h (link (set ns (rootOf h) (withEdges (nth ns (rootOf h)) [])) (onlyChild h ns) none 0) (rootOf h)
+
+abbrev pub popHead : List ℕ → List NodeVal → List ℕ
+popHead h ns = withRoot (returnHead h (rootOf h)) (onlyChild h ns) (heightOf h - 1)
+
+pub record PopReady (h : List ℕ) (ns : List NodeVal) : Type 0 where
+  pub root : rootOf h < length ns
+  pub no-pairs : nth ns (rootOf h) .pairs ≡ []
+  pub one-edge : length (nth ns (rootOf h) .edges) ≡ 1
+  pub child : onlyChild h ns < length ns
+  pub height : 1 ≤ heightOf h
+  pub used : freeNodes h < length ns

@@ -1,0 +1,82 @@
+// Internal nodes: a pair put in with the edge right of it, the split, and levels put on the tree and taken off.
+use columns::insert_word;
+use columns::move_last;
+use columns::remove_word;
+use leaf::SplitResult;
+use leaf::split_leaf_data;
+use node::EDGES;
+use node::INTERNAL;
+use node::Kv;
+use node::NodeNo;
+use node::Place;
+use node::len;
+use store::HEIGHT;
+use store::ROOT;
+use store::clear_parent_link;
+use store::correct_childrens_parent_links;
+use store::return_node;
+use store::set_parent_link;
+use store::take_node;
+ghost use mathlib.Core.Path.{_≡_};
+ghost use mathlib.Core.List.{List};
+ghost use Prim.Native.Nat.{ℕ};
+ghost use Rattle.model.specs.Layout.{NodeVal, Arena};
+ghost use Rattle.node.specs.Reading.{Has, pairOf};
+ghost use Rattle.store.specs.Links.{firstFree, takeHead};
+ghost use Rattle.leaf.specs.Split.{CutReady, Cut, splitNodes};
+ghost use Rattle.internal.specs.Inner.{Branches, FitReady, fitNodes, PushReady, pushHead, pushNodes, PopReady, popHead, popNodes};
+
+// Puts a new root above the root, with the old one as its only edge.
+pub fn push_internal_level(a: &mut [u64]) -> NodeNo
+    requires { ⌜ Has (now a) (λ h ns. PushReady h ns) ⌝ }
+    ensures { λ r. ⌜ ((h : List ℕ) (ns : List NodeVal) → PushReady h ns → Arena (now (a .entry)) h ns → (r .0 ≡ firstFree h) × Arena (now (a .exit)) (pushHead h ns) (pushNodes h ns)) ⌝ }
+{
+    let old = NodeNo(a[ROOT] as usize);
+    let height = a[HEIGHT] + 1;
+    let top = take_node(a, INTERNAL);
+    insert_word(a, top, EDGES, 0, 0, old.0 as u64);
+    set_parent_link(a, old, top, Place(0));
+    a[ROOT] = top.0 as u64;
+    a[HEIGHT] = height;
+    top
+}
+
+// Takes the root off, which has no pairs; its only child becomes the root.
+pub fn pop_internal_level(a: &mut [u64])
+    requires { ⌜ Has (now a) (λ h ns. PopReady h ns) ⌝ }
+    ensures { λ _. ⌜ ((h : List ℕ) (ns : List NodeVal) → PopReady h ns → Arena (now (a .entry)) h ns → Arena (now (a .exit)) (popHead h ns) (popNodes h ns)) ⌝ }
+{
+    let top = NodeNo(a[ROOT] as usize);
+    let height = a[HEIGHT] - 1;
+    let child = remove_word(a, top, EDGES, 1, 0);
+    clear_parent_link(a, NodeNo(child as usize));
+    return_node(a, top);
+    a[ROOT] = child;
+    a[HEIGHT] = height;
+}
+
+// Puts a pair in at an edge of an internal node that has room, and an edge right of it.
+pub fn insert_fit(a: &mut [u64], n: NodeNo, at: Place, kv: Kv, right: NodeNo)
+    requires { ⌜ Has (now a) (λ h ns. FitReady ns (n .0) (at .0) (right .0)) ⌝ }
+    ensures { λ _. ⌜ ((h : List ℕ) (ns : List NodeVal) → FitReady ns (n .0) (at .0) (right .0) → Arena (now (a .entry)) h ns → Arena (now (a .exit)) h (fitNodes ns (n .0) (at .0) (pairOf kv) (right .0))) ⌝ }
+{
+    let next = at.0 + 1;
+    let count = len(a, n) + 1;
+    leaf::insert_fit(a, n, at, kv);
+    insert_word(a, n, EDGES, count, next, right.0 as u64);
+    correct_childrens_parent_links(a, n, next, count + 1);
+}
+
+// Splits an internal node at a pair, which rises; the pairs and edges after it go to a new node.
+pub fn split(a: &mut [u64], n: NodeNo, at: Place) -> SplitResult
+    requires { ⌜ Has (now a) (λ h ns. CutReady h ns (n .0) (at .0) × Branches ns (n .0)) ⌝ }
+    ensures { λ r. ⌜ ((h : List ℕ) (ns : List NodeVal) → CutReady h ns (n .0) (at .0) → Branches ns (n .0) → Arena (now (a .entry)) h ns → Cut h ns (n .0) (at .0) (r .right .0) (pairOf (r .kv)) × Arena (now (a .exit)) (takeHead h ns) (splitNodes ns (n .0) (firstFree h) (at .0))) ⌝ }
+{
+    let next = at.0 + 1;
+    let count = len(a, n) - at.0;
+    let right = take_node(a, INTERNAL);
+    let kv = split_leaf_data(a, n, right, at);
+    move_last(a, n, right, EDGES, next, count, 0);
+    correct_childrens_parent_links(a, right, 0, count);
+    SplitResult { kv, right }
+}

@@ -1,0 +1,4 @@
+-- The files of this crate's definitions.
+-- Assumes nothing.
+pub mod Fields
+pub mod Reading

@@ -1,0 +1,6 @@
+pub mod Leads
+pub mod Relinks
+pub mod Changes
+pub mod Frames
+pub mod Contents
+pub mod Scenes
