@@ -22,3 +22,23 @@ pub fn get(a: &[u64], key: u64) -> Answer
     let at = kv.at;
     Answer::Value(val(a, node, at))
 }
+
+// Puts a pair: a present key's value is replaced, and answered.
+pub fn put(a: &mut [u64], key: u64, val: u64) -> Answer
+    ensures { λ r. ⌜ Call (model.put key val) (now (a .entry)) (now (a .exit)) r ⌝ }
+{
+    if !well_formed(a) {
+        return Answer::BadArena;
+    }
+    insert::put(a, key, val)
+}
+
+// Takes the pair of a key out, and answers its value.
+pub fn delete(a: &mut [u64], key: u64) -> Answer
+    ensures { λ r. ⌜ Call (model.delete key) (now (a .entry)) (now (a .exit)) r ⌝ }
+{
+    if !well_formed(a) {
+        return Answer::BadArena;
+    }
+    remove::delete(a, key)
+}

@@ -70,15 +70,20 @@ relinked-trans x y = record {
   leading = λ q. y .leading q ∙ x .leading q;
 }
 
--- bodies changed at xs, then links written, and no edge leads to a node that none led to
-pub kept-relinked : (ns mid ns′ : List NodeVal) (xs : List ℕ) → Links ns → length ns ≤ largestCount → Bodied ns mid xs → Relinked mid ns′ → ((q : ℕ) → leads q mid ≤ leads q ns) → Links ns′ → Kept ns ns′ xs []
-kept-relinked ns mid ns′ xs L few B R f l = record {
+-- bodies changed at xs, then links written; of the nodes that no edge led to, edges lead to those of ys now
+pub kept-linked : (ns mid ns′ : List NodeVal) (xs ys : List ℕ) → Links ns → length ns ≤ largestCount → Bodied ns mid xs → Relinked mid ns′ → ((q : ℕ) → nth ns q .state ≡ 0 → leads q mid ≤ leads q ns)
+    → ((q : ℕ) → times q ys ≡ 0 → nth ns q .parent ≡ none → leads q mid ≤ leads q ns) → Links ns′ → Kept ns ns′ xs ys
+kept-linked ns mid ns′ xs ys L few B R f g l = record {
   long = R .long ∙ B .long;
   bodies = λ q z. R .bodies q ∙ ap bodyOf (B .others q z);
-  frees = λ q z s. R .unled q (omega (arith, f q, free-unled ns L few q s)) ∙ B .others q z;
-  roots = λ q z s. ap linkOf (R .unled q (omega (arith, f q, root-unled ns L few q s))) ∙ B .linking q;
+  frees = λ q z s. R .unled q (omega (arith, f q s, free-unled ns L few q s)) ∙ B .others q z;
+  roots = λ q z s. ap linkOf (R .unled q (omega (arith, g q z s, root-unled ns L few q s))) ∙ B .linking q;
   links = l;
 }
+
+-- no edge leads to a node that none led to
+pub kept-relinked : (ns mid ns′ : List NodeVal) (xs : List ℕ) → Links ns → length ns ≤ largestCount → Bodied ns mid xs → Relinked mid ns′ → ((q : ℕ) → leads q mid ≤ leads q ns) → Links ns′ → Kept ns ns′ xs []
+kept-relinked ns mid ns′ xs L few B R f l = kept-linked ns mid ns′ xs [] L few B R (λ q s. f q) (λ q z s. f q) l
 
 pub kept-trans : {a b c : List NodeVal} {xs ys : List ℕ} → Kept a b xs ys → Kept b c xs ys → Kept a c xs ys
 kept-trans x y = record {

@@ -77,12 +77,18 @@ pub record Beside (ns : List NodeVal) {h : ℕ} (c : Ctx (suc (suc h))) (n : ℕ
   pub once : (m : ℕ) → counts m c (one n m + (hasIn (has m (suc h)) l + (has m (suc h) (w .left) + (has m (suc h) (w .right) + hasIn (has m (suc h)) r)))) free ≤ 1
   pub within : (m : ℕ) → 1 ≤ counts m c (one n m + (hasIn (has m (suc h)) l + (has m (suc h) (w .left) + (has m (suc h) (w .right) + hasIn (has m (suc h)) r)))) free → m < length ns
 
+-- no edge leads to a tree
+abbrev pub Loose : List NodeVal → (h : ℕ) → Tree h → Type 0
+Loose ns zero t = Unit {0}
+Loose ns (suc h) t = nth ns (t .no) .parent ≡ none
+
 -- a hole that x fills, and beside it the tree y, which no edge leads to yet
 pub record Open (ns : List NodeVal) {h : ℕ} (c : Ctx h) (x y : Tree h) (free : List ℕ) : Type 0 where
   pub few : length ns ≤ largestCount
   pub way : Way ns c (rootNo h x)
   pub low : Stands ns h x
   pub high : Stands ns h y
+  pub loose : Loose ns h y
   pub chain : All (Written ns) (chainBlocks free)
   pub links : Links ns
   pub root : linkOf (nth ns (rootOf c (rootNo h x))) ≡ atRoot

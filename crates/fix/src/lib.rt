@@ -1,0 +1,144 @@
+// The repair of a node that has lost a pair, through its parent and upwards (fix.rs, and choose_parent_kv of node.rs).
+use balance::bulk_steal_left;
+use balance::bulk_steal_right;
+use balance::do_merge;
+use node::Ascent;
+use node::NodeNo;
+use node::Place;
+use node::ascend;
+use node::edge;
+use node::len;
+ghost use mathlib.Core.Path.{_≡_};
+ghost use Prim.Native.Nat.{_+_, _≤_};
+ghost use lib.Dec.{leb};
+ghost use Rattle.model.specs.Layout.{most, wordAt, lengthWord};
+ghost use Rattle.model.specs.Nodes.{Grown};
+ghost use Rattle.node.specs.Reading.{Within};
+ghost use Rattle.fix.specs.Repairs.{Rest, ClosedIn, Mending, Mends, Emptied, chosen, Fixing, Ended};
+
+// The pairs that a node holds at most, and at least if it is not the root.
+pub const CAPACITY: usize = 11;
+
+pub const MIN_LEN: usize = 5;
+
+// Two neighbours, and the place of the pair between them in their parent.
+pub struct BalancingContext {
+    pub parent: NodeNo,
+    pub at: Place,
+    pub left: NodeNo,
+    pub right: NodeNo,
+}
+
+// A node's sibling: at its left, or at its right. The root has none.
+pub enum ParentKv {
+    Left(BalancingContext),
+    Right(BalancingContext),
+    Root,
+}
+
+// What a repair through the parent leaves: the parent, which a merge has shrunk; nothing more to do; or a root without pairs.
+pub enum Fixed {
+    Merged(NodeNo),
+    Whole,
+    EmptyRoot,
+}
+
+// The left sibling if there is one, otherwise the right one.
+pub fn choose_parent_kv(a: &[u64], node: NodeNo) -> ParentKv
+    requires { ⌜ Mends (now a) (node .0) ⌝ }
+    ensures { λ r. ⌜ ((g : Rest) (t : Grown) (m : Mending (now (a .entry)) g (node .0) t) → r ≡ chosen (m .way) (m .tree)) ⌝ }
+{
+    let Ascent::Edge(parent, idx) = ascend(a, node) else {
+        return ParentKv::Root;
+    };
+    let i = idx.0;
+    if i > 0 {
+        let left = edge(a, parent, Place(i - 1));
+        return ParentKv::Left(BalancingContext {
+            parent,
+            at: Place(i - 1),
+            left,
+            right: node,
+        });
+    }
+    let right = edge(a, parent, Place(1));
+    ParentKv::Right(BalancingContext {
+        parent,
+        at: Place(0),
+        left: node,
+        right,
+    })
+}
+
+// The pairs of two neighbours and the one between them fit into one node.
+pub fn can_merge(a: &[u64], left: NodeNo, right: NodeNo) -> bool
+    requires { ⌜ Within (now a) (left .0) × Within (now a) (right .0) × (wordAt (now a) (left .0) lengthWord ≤ most) × (wordAt (now a) (right .0) lengthWord ≤ most) ⌝ }
+    ensures { λ r. ⌜ r ≡ leb (wordAt (now (a .entry)) (left .0) lengthWord + 1 + wordAt (now (a .entry)) (right .0) lengthWord) most ⌝ }
+{
+    let n = len(a, left) + 1;
+    n + len(a, right) <= CAPACITY
+}
+
+// A node with too few pairs is merged with its sibling, or pairs are moved to it through the parent.
+pub fn fix_node_through_parent(a: &mut [u64], node: NodeNo) -> Fixed
+    requires { ⌜ Mends (now a) (node .0) ⌝ }
+    ensures { λ r. ⌜ ((g : Rest) (t : Grown) → Mending (now (a .entry)) g (node .0) t → Fixing r (now (a .entry)) (now (a .exit)) g t) ⌝ }
+{
+    let n = len(a, node);
+    if n >= MIN_LEN {
+        return Fixed::Whole;
+    }
+    match choose_parent_kv(a, node) {
+        ParentKv::Left(c) => {
+            let parent = c.parent;
+            let at = c.at;
+            let left = c.left;
+            let right = c.right;
+            if can_merge(a, left, right) {
+                do_merge(a, parent, at, left, right);
+                return Fixed::Merged(parent);
+            }
+            bulk_steal_left(a, parent, at, left, right, MIN_LEN - n);
+            return Fixed::Whole;
+        }
+        ParentKv::Right(c) => {
+            let parent = c.parent;
+            let at = c.at;
+            let left = c.left;
+            let right = c.right;
+            if can_merge(a, left, right) {
+                do_merge(a, parent, at, left, right);
+                return Fixed::Merged(parent);
+            }
+            bulk_steal_right(a, parent, at, left, right, MIN_LEN - n);
+            return Fixed::Whole;
+        }
+        ParentKv::Root => {
+            if n > 0 {
+                return Fixed::Whole;
+            }
+            return Fixed::EmptyRoot;
+        }
+    }
+}
+
+// The same of a node and then, after each merge, of its parent. Answers whether the root still has pairs.
+pub fn fix_node_and_affected_ancestors(a: &mut [u64], node: NodeNo) -> bool
+    requires { ⌜ Mends (now a) (node .0) ⌝ }
+    ensures { λ r. ⌜ ((g : Rest) (t : Grown) → Mending (now (a .entry)) g (node .0) t → Ended r (now (a .exit)) g t) ⌝ }
+{
+    let mut n = node;
+    loop {
+        match fix_node_through_parent(a, n) {
+            Fixed::Merged(parent) => {
+                n = parent;
+            }
+            Fixed::Whole => {
+                return true;
+            }
+            Fixed::EmptyRoot => {
+                return false;
+            }
+        }
+    }
+}

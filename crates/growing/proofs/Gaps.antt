@@ -1,0 +1,188 @@
+-- An insertion at a hole, in words: what each call of the store asks, and what the words are after it.
+-- Assumes nothing.
+use Prim.Native.Nat.{ℕ, suc, _+_, _-_, pred, _≤_, _<_}
+use native.Mathlib.Nat.{not-suc-le-zero}
+use native.Mathlib.Omega.{arith}
+use mathlib.Core.Path.{_≡_, refl, _∙_, sym, subst}
+use mathlib.Core.Bool.{true, false}
+use mathlib.Core.List.{List, [], _∷_}
+use lib.ListN.{length}
+use borrow.Author.Tests.{le-leb, lt-leb}
+use Rattle.model.specs.Layout.{most, NodeVal, wordAt, lengthWord, Arena}
+use Rattle.model.specs.Tree.{Pair, Tree, Frame, Ctx, top, under, plug, fill}
+use Rattle.model.specs.Nodes.{taken, untaken}
+use Rattle.model.specs.Words.{rootNo}
+use Rattle.model.specs.Insert.{Split, splitpoint, isFull}
+use Rattle.model.proofs.Climb.{halved, rise-fits}
+use Rattle.node.specs.Reading.{Within, Has}
+use Rattle.node.proofs.Reading.{within, len-is}
+use Rattle.store.specs.Links.{firstFree, takeHead}
+use Rattle.leaf.specs.Split.{splitNodes, CutReady, Cut}
+use Rattle.standing.specs.Standing.{rootOf}
+use Rattle.standing.proofs.Scenes.{close}
+use Rattle.growing.specs.Steps.{fitAt, FitsAt, Splits, half}
+use Rattle.growing.specs.Climbs.{Rest, headWords, topOf, OpenIn, ClosedIn, Gap, Fitted, Risen}
+use Rattle.growing.proofs.Steps.{node-in, node-pairs, fit-ready, fitted, fit-long, fit-step, cut-ready, half-ready, risen, split-long, split-step}
+
+-- ---- what the store's calls are known to do, for a leaf (0) and an internal node alike
+
+abbrev pub FitIn : ℕ → List ℕ → ℕ → ℕ → ℕ → Type 0
+FitIn h w n i y = Has w (λ hd ns. FitsAt h ns n i y)
+
+abbrev pub FitCall : ℕ → List ℕ → List ℕ → ℕ → ℕ → Pair → ℕ → Type 0
+FitCall h w w′ n i p y = (hd : List ℕ) (ns : List NodeVal) → FitsAt h ns n i y → Arena w hd ns → Arena w′ hd (fitAt h ns n i p y)
+
+abbrev pub CutIn : ℕ → List ℕ → ℕ → ℕ → Type 0
+CutIn h w n i = Has w (λ hd ns. CutReady hd ns n i × Splits h ns n)
+
+abbrev pub CutCall : ℕ → List ℕ → List ℕ → ℕ → ℕ → ℕ → Pair → Type 0
+CutCall h w w′ n i r p = (hd : List ℕ) (ns : List NodeVal) → CutReady hd ns n i → Splits h ns n → Arena w hd ns → Cut hd ns n i r p × Arena w′ (takeHead hd ns) (splitNodes ns n (firstFree hd) i)
+
+-- ---- a whole tree again
+
+pub plug-root : {h : ℕ} (c : Ctx h) (x : Tree h) → rootNo ((plug c x) .height) ((plug c x) .root) ≡ rootOf c (rootNo h x)
+plug-root top x = refl
+plug-root (under f c) x = plug-root c (fill (f .no) (f .left) x (f .right))
+
+pub plug-top : {h : ℕ} (c : Ctx h) (x : Tree h) → (plug c x) .height ≡ topOf c
+plug-top top x = refl
+plug-top (under f c) x = plug-top c (fill (f .no) (f .left) x (f .right))
+
+-- a list that is not empty
+first-known : (l : List ℕ) → 1 ≤ length l → l ≡ taken l ∷ untaken l
+first-known [] h = absurd (not-suc-le-zero h)
+first-known (x ∷ l) h = refl
+
+pub with-first : {w : List ℕ} {g : Rest} {h : ℕ} (c : Ctx h) (x y : Tree h) (free : List ℕ) → 1 ≤ length free → OpenIn w g c x y free → OpenIn w g c x y (taken free ∷ untaken free)
+with-first {w} {g} c x y free l H = subst (λ (t : List ℕ). OpenIn w g c x y t) (first-known free l) H
+
+-- ---- a pair that fits
+
+module _ {w : List ℕ} {g : Rest} {h : ℕ} (f : Frame (Tree h)) (c : Ctx (suc h)) (x y : Tree h) (free : List ℕ) (H : OpenIn w g (under f c) x y free) where
+  pub node-known : Within w (f .no) × (wordAt w (f .no) lengthWord ≡ length (f .left) + length (f .right)) × (length (f .left) + length (f .right) ≤ most)
+  node-known =
+      let o = node-in f c x y free (H .stand) in
+      let e = node-pairs f c x y free (H .stand) in
+      (within (H .arena) (f .no) o, len-is (H .arena) (f .no) o ∙ e, omega (arith, H .arena .small (f .no) o .pairs-fit))
+
+  module _ (room : isFull f ≡ false) where
+    pub fit-in : FitIn h w (f .no) (length (f .left)) (rootNo h y)
+    fit-in = record { head = _; nodes = H .nodes; arena = H .arena; holds = fit-ready f c x y free (H .stand) room }
+
+    pub fit-held : (p : Pair) (w′ : List ℕ) → FitCall h w w′ (f .no) (length (f .left)) p (rootNo h y) → ClosedIn w′ g (record { whole = plug (under (record { no = f .no; left = f .left; right = record { pair = p; edge = y } ∷ f .right }) c) x; free = free })
+    fit-held p w′ call =
+        let u = under (fitted f c x y free (H .stand) p) c in
+        let s = fit-step f c x y free (H .stand) p in
+        record {
+          nodes = fitAt h (H .nodes) (f .no) (length (f .left)) p (rootNo h y);
+          arena = rw (plug-root u x, plug-top u x) (call _ (H .nodes) (fit-ready f c x y free (H .stand) room) (H .arena));
+          stand = close u x free s;
+          many = fit-long f c x y free (H .stand) p ∙ H .many;
+        }
+
+-- ---- a full node
+
+module _ {w : List ℕ} {g : Rest} {h : ℕ} (f : Frame (Tree h)) (c : Ctx (suc h)) (x y : Tree h) (p : Pair) (m : ℕ) (free : List ℕ) (H : OpenIn w g (under f c) x y (m ∷ free)) (full : isFull f ≡ true) where
+  abbrev few : length (f .left) + length (f .right) ≤ most
+  few = node-known f c x y (m ∷ free) H .2
+
+  abbrev pt : Split
+  pt = splitpoint (length (f .left))
+
+  abbrev hd : List ℕ
+  hd = headWords g (rootOf c (f .no)) (pred (topOf c)) (m ∷ free)
+
+  abbrev hd′ : List ℕ
+  hd′ = headWords g (rootOf c (f .no)) (pred (topOf c)) free
+
+  head-taken : takeHead hd (H .nodes) ≡ hd′
+  head-taken =
+      let z : suc (length free) - 1 ≡ length free = omega arith in
+      rw (z, H .stand .chain .0) refl
+
+  ready : CutReady hd (H .nodes) (f .no) (pt .place) × Splits h (H .nodes) (f .no)
+  ready = cut-ready f c x y p m free (H .stand) full few hd refl (omega arith)
+
+  pub cut-in : CutIn h w (f .no) (pt .place)
+  cut-in = record { head = hd; nodes = H .nodes; arena = H .arena; holds = ready }
+
+  module _ (w₁ : List ℕ) (r : ℕ) (up : Pair) (cut : CutCall h w w₁ (f .no) (pt .place) r up) where
+    done : Cut hd (H .nodes) (f .no) (pt .place) r up × Arena w₁ hd′ (splitNodes (H .nodes) (f .no) m (pt .place))
+    done = rw head-taken at (cut hd (H .nodes) (ready .0) (ready .1) (H .arena))
+
+    pub half-in : FitIn h w₁ (half (pt .side) (f .no) m) (pt .edge) (rootNo h y)
+    half-in = record { head = hd′; nodes = _; arena = done .1; holds = half-ready f c x y p m free (H .stand) full few }
+
+    pub up-is : (halved f c x p y (m ∷ free)) .pair ≡ up
+    up-is = sym (done .0 .risen-is ∙ risen f c x y p m free (H .stand) full few)
+
+    pub right-is : m ≡ r
+    right-is = sym (done .0 .right-is)
+
+    pub split-held : (w₂ : List ℕ) → FitCall h w₁ w₂ (half (pt .side) (f .no) m) (pt .edge) p (rootNo h y) → OpenIn w₂ g c ((halved f c x p y (m ∷ free)) .left) ((halved f c x p y (m ∷ free)) .right) free
+    split-held w₂ call = record {
+      nodes = fitAt h (splitNodes (H .nodes) (f .no) m (pt .place)) (half (pt .side) (f .no) m) (pt .edge) p (rootNo h y);
+      arena = call hd′ _ (half-ready f c x y p m free (H .stand) full few) (done .1);
+      stand = split-step f c x y p m free (H .stand) full few;
+      many = split-long f c x y p m free (H .stand) full few ∙ H .many;
+    }
+
+-- ---- the same of a gap, in the code's own numbers
+
+not-full : {A : Type 0} (f : Frame A) → length (f .left) + length (f .right) < most → isFull f ≡ false
+not-full f l = lt-leb most (length (f .left) + length (f .right)) l
+
+is-full : {A : Type 0} (f : Frame A) → most ≤ length (f .left) + length (f .right) → isFull f ≡ true
+is-full f l = le-leb most (length (f .left) + length (f .right)) l
+
+pub gap-within : {w : List ℕ} {h node at child : ℕ} → Gap w h node at child → Within w node
+gap-within s = rw (s .node-is) at (node-known (s .frame) (s .way) (s .low) (s .high) (s .free) (s .held) .0)
+
+module _ {w : List ℕ} {h node at child : ℕ} (s : Gap w h node at child) (k : ℕ) (ek : k ≡ wordAt w node lengthWord) where
+  abbrev f : Frame (Tree h)
+  f = s .frame
+
+  count-is : wordAt w node lengthWord ≡ length (f .left) + length (f .right)
+  count-is = rw (s .node-is) at (node-known (s .frame) (s .way) (s .low) (s .high) (s .free) (s .held) .1)
+
+  module _ (short : k < most) where
+    room : isFull f ≡ false
+    room = not-full f (omega (arith, count-is))
+
+    pub gap-fit : FitIn h w node at child
+    gap-fit = rw (s .node-is, s .at-is, s .child-is) at (fit-in (s .frame) (s .way) (s .low) (s .high) (s .free) (s .held) room)
+
+    pub gap-fitted : (p : Pair) (w′ : List ℕ) → FitCall h w w′ node at p child → Fitted s p w′
+    gap-fitted p w′ call =
+        let c : FitCall h w w′ (f .no) (length (f .left)) p (rootNo h (s .high)) = rw (← s .node-is, ← s .at-is, ← s .child-is) at call in
+        rw (rise-fits f (s .way) (s .low) p (s .high) (s .free) room) (fit-held f (s .way) (s .low) (s .high) (s .free) (s .held) room p w′ c)
+
+  module _ (long : most ≤ k) (p : Pair) (mid : ℕ) (em : mid ≡ splitpoint at .place) where
+    full : isFull f ≡ true
+    full = is-full f (omega (arith, count-is))
+
+    H : OpenIn w (s .rest) (under f (s .way)) (s .low) (s .high) (taken (s .free) ∷ untaken (s .free))
+    H = with-first (under f (s .way)) (s .low) (s .high) (s .free) (s .enough full) (s .held)
+
+    pub gap-cut : CutIn h w node mid
+    gap-cut = rw (em, ← s .at-is, ← s .node-is) (cut-in f (s .way) (s .low) (s .high) p (taken (s .free)) (untaken (s .free)) H full)
+
+    module _ (w₁ : List ℕ) (r : ℕ) (up : Pair) (cut : CutCall h w w₁ node mid r up) (n′ i′ : ℕ) (en : n′ ≡ half (splitpoint at .side) node r) (ei : i′ ≡ splitpoint at .edge) where
+      cut′ : CutCall h w w₁ (f .no) (splitpoint (length (f .left)) .place) r up
+      cut′ = rw (em, ← s .at-is, ← s .node-is) at cut
+
+      new-is : taken (s .free) ≡ r
+      new-is = right-is f (s .way) (s .low) (s .high) p (taken (s .free)) (untaken (s .free)) H full w₁ r up cut′
+
+      pub gap-half : FitIn h w₁ n′ i′ child
+      gap-half = rw (en, ei, ← new-is, ← s .at-is, ← s .node-is, ← s .child-is) (half-in f (s .way) (s .low) (s .high) p (taken (s .free)) (untaken (s .free)) H full w₁ r up cut′)
+
+      pub gap-risen : (w₂ : List ℕ) → FitCall h w₁ w₂ n′ i′ p child → Risen s p w₂ up r
+      gap-risen w₂ call =
+          let c : FitCall h w₁ w₂ (half (splitpoint (length (f .left)) .side) (f .no) (taken (s .free))) (splitpoint (length (f .left)) .edge) p (rootNo h (s .high)) = rw (en, ei, ← new-is, ← s .at-is, ← s .node-is, ← s .child-is) at call in
+          record {
+            full = full;
+            pair-is = up-is f (s .way) (s .low) (s .high) p (taken (s .free)) (untaken (s .free)) H full w₁ r up cut′;
+            right-is = new-is;
+            held = split-held f (s .way) (s .low) (s .high) p (taken (s .free)) (untaken (s .free)) H full w₁ r up cut′ w₂ c;
+          }

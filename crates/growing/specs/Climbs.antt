@@ -1,0 +1,98 @@
+-- The arena's words during the climb of an insertion: a tree with a hole and a tree beside it, or a whole tree again.
+-- Assumes nothing.
+use Prim.Native.Nat.{ℕ, suc, _+_, pred, _≤_}
+use mathlib.Core.Path.{_≡_}
+use mathlib.Core.Bool.{true}
+use mathlib.Core.List.{List, [], _∷_}
+use lib.ListN.{length}
+use Rattle.model.specs.Layout.{formatNumber, headerSize, largestHeight, NodeVal, Arena}
+use Rattle.model.specs.Tree.{Pair, Tree, Frame, Ctx, top, under}
+use Rattle.model.specs.Nodes.{untaken, Grown}
+use Rattle.model.specs.Insert.{isFull, rise, needed}
+use Rattle.model.specs.Mark.{seenOf, markOf}
+use Rattle.model.specs.State.{State, list}
+use Rattle.model.specs.Words.{rootNo, firstOr}
+use Rattle.model.proofs.Climb.{halved}
+use Rattle.standing.specs.Standing.{rootOf, Open, Closed}
+
+-- the header words that the climb leaves alone
+pub record Rest : Type 0 where
+  pub size : ℕ
+  pub pairs : ℕ
+  pub seen : ℕ
+  pub mark : ℕ
+
+abbrev pub restOf : State → Rest
+restOf s = record { size = s .size; pairs = length (list s); seen = seenOf (s .mark); mark = markOf (s .mark) }
+
+abbrev pub headWords : Rest → ℕ → ℕ → List ℕ → List ℕ
+headWords g root height free = formatNumber ∷ g .size ∷ headerSize ∷ root ∷ height ∷ g .pairs ∷ firstOr free ∷ length free ∷ g .seen ∷ g .mark ∷ []
+
+-- the height of the tree that a way leads up in, and the levels above its hole
+abbrev pub topOf : {h : ℕ} → Ctx h → ℕ
+topOf (top {h = h}) = h
+topOf (under f c) = topOf c
+
+abbrev pub depth : {h : ℕ} → Ctx h → ℕ
+depth top = 0
+depth (under f c) = suc (depth c)
+
+-- the words are a tree with a hole that x fills, and y beside it
+pub record OpenIn (w : List ℕ) (g : Rest) {h : ℕ} (c : Ctx h) (x y : Tree h) (free : List ℕ) : Type 0 where
+  pub nodes : List NodeVal
+  pub arena : Arena w (headWords g (rootOf c (rootNo h x)) (pred (topOf c)) free) nodes
+  pub stand : Open nodes c x y free
+  pub many : length nodes ≡ g .size
+
+-- they are a whole tree
+pub record ClosedIn (w : List ℕ) (g : Rest) (t : Grown) : Type 0 where
+  pub nodes : List NodeVal
+  pub arena : Arena w (headWords g (rootNo (t .whole .height) (t .whole .root)) (pred (t .whole .height)) (t .free)) nodes
+  pub stand : Closed nodes (t .whole) (t .free)
+  pub many : length nodes ≡ g .size
+
+-- a hole at the edge `at` of the node `node`, with h levels below its edges, and a tree `child` to stand right of it
+pub record Gap (w : List ℕ) (h node at child : ℕ) : Type 0 where
+  pub rest : Rest
+  pub way : Ctx (suc h)
+  pub frame : Frame (Tree h)
+  pub low : Tree h
+  pub high : Tree h
+  pub free : List ℕ
+  pub held : OpenIn w rest (under frame way) low high free
+  pub node-is : frame .no ≡ node
+  pub at-is : length (frame .left) ≡ at
+  pub child-is : rootNo h high ≡ child
+  pub enough : isFull frame ≡ true → 1 ≤ length free
+
+-- the climb is over
+abbrev pub Fitted : {w : List ℕ} {h node at child : ℕ} → Gap w h node at child → Pair → List ℕ → Type 0
+Fitted s p w = ClosedIn w (s .rest) (rise (under (s .frame) (s .way)) (s .low) p (s .high) (s .free))
+
+-- the node was split: the pair up and the node `right` are to go into the node above
+pub record Risen {w : List ℕ} {h node at child : ℕ} (s : Gap w h node at child) (p : Pair) (w′ : List ℕ) (up : Pair) (right : ℕ) : Type 0 where
+  pub full : isFull (s .frame) ≡ true
+  pub pair-is : (halved (s .frame) (s .way) (s .low) p (s .high) (s .free)) .pair ≡ up
+  pub right-is : (halved (s .frame) (s .way) (s .low) p (s .high) (s .free)) .right .no ≡ right
+  pub held : OpenIn w′ (s .rest) (s .way) ((halved (s .frame) (s .way) (s .low) p (s .high) (s .free)) .left) ((halved (s .frame) (s .way) (s .low) p (s .high) (s .free)) .right) (untaken (s .free))
+
+-- the climb is going to t: the pair p and the node `right` are to go up from the node `node`, so many levels below the root
+pub record Climbing (w : List ℕ) (g : Rest) (node levels : ℕ) (p : Pair) (right : ℕ) (t : Grown) : Type 0 where
+  pub height : ℕ
+  pub way : Ctx (suc height)
+  pub low : Tree (suc height)
+  pub high : Tree (suc height)
+  pub free : List ℕ
+  pub held : OpenIn w g way low high free
+  pub node-is : low .no ≡ node
+  pub right-is : high .no ≡ right
+  pub levels-is : depth way ≡ levels
+  pub tall : topOf way ≤ largestHeight + 1
+  pub enough : needed way ≤ length free
+  pub same : rise way low p high free ≡ t
+
+-- a gap from which the climb goes to t, whether the pair fits or the node is split
+pub record Going (w : List ℕ) (g : Rest) (h node at child levels : ℕ) (p : Pair) (t : Grown) : Type 0 where
+  pub gap : Gap w h node at child
+  pub fit : (w′ : List ℕ) → Fitted gap p w′ → ClosedIn w′ g t
+  pub split : (w′ : List ℕ) (up : Pair) (right : ℕ) → Risen gap p w′ up right → Climbing w′ g node levels up right t

@@ -1,0 +1,35 @@
+-- `map::delete` meets its contract: the check, and the call behind it.
+-- Assumes nothing.
+use borrow.Author.Needs.{needs}
+use Rattle.model.specs.WellFormed.{WellFormed}
+use Rattle.model.specs.State.{delete}
+use Rattle.model.proofs.Ends.{call-refused, call-done}
+use Rattle.inspect.proofs.Decisions.{decided, refuted}
+use Rattle.map.proofs.delete.Statement.{statement}
+use Rattle.map.proofs.delete.Tie as tie
+
+formed : (c : tie.Else1) → WellFormed (c .before .before .before .before .args .a .now)
+formed c = decided (c .before .well-formed .result) (c .before .well-formed .ensures) (c .if1 .left)
+
+well-formed-requires : tie.Need-well-formed-requires
+well-formed-requires c κs = search needs
+
+same-length : tie.Need-same-length
+same-length c = search needs
+
+returns : tie.Need-returns
+returns c = call-refused _ (refuted (c .before .well-formed .result) (c .before .well-formed .ensures) (c .if1 .taken))
+
+delete-requires : tie.Need-delete-requires
+delete-requires c κs = formed (c .before)
+
+same-length-2 : tie.Need-same-length-2
+same-length-2 c = search needs
+
+returns-2 : tie.Need-returns-2
+returns-2 c = call-done (delete (c .before .before .before .before .before .before .before .before .args .key)) (formed (c .before .before .before .before)) (c .before .before .delete .ensures)
+
+pub delete-spec : {M : Type 1} → statement M
+delete-spec =
+    tie.close
+    (tie.spec well-formed-requires same-length returns delete-requires same-length-2 returns-2)

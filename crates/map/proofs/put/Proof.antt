@@ -1,0 +1,37 @@
+-- `map::put` meets its contract.
+-- Assumes nothing.
+use mathlib.Core.Logic.{inl, inr}
+use mathlib.Core.Path.{refl}
+use borrow.Author.Needs.{needs}
+use Rattle.model.specs.WellFormed.{WellFormed}
+use Rattle.model.proofs.Ends.{call-refused}
+use Rattle.inspect.proofs.Decisions.{decided, refuted}
+use Rattle.insert.proofs.Ends.{called}
+use Rattle.map.proofs.put.Statement.{statement}
+use Rattle.map.proofs.put.Tie as tie
+
+formed : (c : tie.Else1) → WellFormed (c .before .before .before .before .args .a .now)
+formed c = decided (c .before .well-formed .result) (c .before .well-formed .ensures) (c .if1 .left)
+
+well-formed-requires : tie.Need-well-formed-requires
+well-formed-requires c κs = search needs
+
+same-length : tie.Need-same-length
+same-length c = search needs
+
+returns : tie.Need-returns
+returns c = call-refused _ (refuted (c .before .well-formed .result) (c .before .well-formed .ensures) (c .if1 .taken))
+
+put-requires : tie.Need-put-requires
+put-requires c κs = formed (c .before)
+
+same-length-2 : tie.Need-same-length-2
+same-length-2 c = search needs
+
+returns-2 : tie.Need-returns-2
+returns-2 c = let f = formed (c .before .before .before .before) in inr ((λ b. b f), called _ f (c .before .before .put .ensures))
+
+pub put-spec : {M : Type 1} → statement M
+put-spec =
+    tie.close
+    (tie.spec well-formed-requires same-length returns put-requires same-length-2 returns-2)

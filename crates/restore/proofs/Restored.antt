@@ -1,0 +1,86 @@
+-- The words that a restore leaves: the image's, with the mark's two words raised.
+-- Assumes nothing.
+use Prim.Native.Nat.{ℕ, suc, _+_, _≤_, _<_, max}
+use native.Mathlib.Omega.{arith}
+use native.Mathlib.Numerals.{add-one}
+use mathlib.Core.Path.{_≡_, refl, sym, ap, _∙_}
+use mathlib.Core.Logic.{inl, inr}
+use mathlib.Core.List.{List, _++_, append-nil}
+use lib.Dec.{lit<}
+use lib.ListN.{length, take, drop, getD, set, drop-of-length-le}
+use lib.Seq.{drop-cons, set-at, append-snoc, take-suc, take-all, length-take-le}
+use Rattle.model.specs.Layout.{headerSize, header, seenWord, markWord, arena}
+use Rattle.model.specs.Mark.{Mark, unseen, seen, higher, seenOf, markOf}
+use Rattle.model.specs.State.{State, restored}
+use Rattle.model.specs.Words.{wordsOf}
+use Rattle.model.specs.WellFormed.{WellFormed}
+use Rattle.model.specs.Promise.{Holds, Restore}
+use Rattle.model.specs.declared.Answer.the-variants.{Done, BadArena, BadSize, BadImage}
+use Rattle.model.proofs.Decode.{stateOf}
+use Rattle.model.proofs.Forward.{forward}
+use Rattle.model.proofs.Held.{words-header}
+
+-- ---- a turn of the copy: one more word is the image's
+
+pub turn : (l m : List ℕ) (i : ℕ) → i < length l → i < length m → set (take i m ++ drop i l) i (getD m i 0) ≡ take (i + 1) m ++ drop (i + 1) l
+turn l m i h g =
+    rw (add-one i, drop-cons l i 0 h, take-suc m i 0 g)
+    (set-at (take i m) (getD l i 0) (drop (suc i) l) (getD m i 0) i (length-take-le i m (omega arith)) ∙ sym (append-snoc (take i m) (getD m i 0) (drop (suc i) l)))
+
+-- every word is
+pub copied : (l m : List ℕ) (i : ℕ) → length l ≤ i → length m ≤ i → take i m ++ drop i l ≡ m
+copied l m i h g = rw (take-all i m g, drop-of-length-le l {i = i} h) (append-nil m)
+
+-- ---- the mark's words
+
+seen-higher : (m n : Mark) → seenOf (higher m n) ≡ max (seenOf m) (seenOf n)
+seen-higher unseen unseen = omega arith
+seen-higher unseen (seen b) = omega arith
+seen-higher (seen a) unseen = omega arith
+seen-higher (seen a) (seen b) = omega arith
+
+mark-higher : (m n : Mark) → markOf (higher m n) ≡ max (markOf m) (markOf n)
+mark-higher unseen unseen = omega arith
+mark-higher unseen (seen b) = omega arith
+mark-higher (seen a) unseen = omega arith
+mark-higher (seen a) (seen b) = refl
+
+-- a restored state's words are the image's but for those two
+restored-words : (s i : State) → wordsOf (restored s i) ≡ set (set (wordsOf i) seenWord (max (seenOf (s .mark)) (seenOf (i .mark)))) markWord (max (markOf (s .mark)) (markOf (i .mark)))
+unfolding wordsOf arena
+restored-words s i = rw (← seen-higher (s .mark) (i .mark), ← mark-higher (s .mark) (i .mark)) refl
+
+-- the mark's words, where words hold a state
+seen-is : {w : List ℕ} {s : State} → Holds w s → getD w seenWord 0 ≡ seenOf (s .mark)
+seen-is o = ap (λ (x : List ℕ). header x seenWord) (o .words) ∙ words-header (o .sound) seenWord (lit< tt)
+
+mark-is : {w : List ℕ} {s : State} → Holds w s → getD w markWord 0 ≡ markOf (s .mark)
+mark-is o = ap (λ (x : List ℕ). header x markWord) (o .words) ∙ words-header (o .sound) markWord (lit< tt)
+
+left-words : {w i : List ℕ} {s t : State} → Holds w s → Holds i t → set (set i seenWord (max (getD w seenWord 0) (getD i seenWord 0))) markWord (max (getD w markWord 0) (getD i markWord 0)) ≡ wordsOf (restored s t)
+left-words {s = s} {t = t} o p = rw (seen-is o, mark-is o, seen-is p, mark-is p, p .words) (sym (restored-words s t))
+
+-- ---- the call
+
+-- a well-formed arena has its header
+pub headed : {w : List ℕ} → WellFormed w → headerSize ≤ length w
+headed f = omega (arith, f .sized .long-is)
+
+module _ (w i : List ℕ) where
+  pub wrong-size : (length i ≡ length w → ⊥) → Restore w w i BadSize
+  wrong-size l = inl (l, (refl, refl))
+
+  module _ (l : length i ≡ length w) where
+    pub bad-words : (WellFormed w → ⊥) → Restore w w i BadArena
+    bad-words b = inr ((λ n. n l), inl (b, (refl, refl)))
+
+    module _ (f : WellFormed w) where
+      pub bad-image : (WellFormed i → ⊥) → Restore w w i BadImage
+      bad-image b = inr ((λ n. n l), inr ((λ n. n f), inl (b, (refl, refl))))
+
+      -- the words x were copied, and the marks raised in them
+      pub done : WellFormed i → (x w′ : List ℕ) → x ≡ i → w′ ≡ set (set x seenWord (max (getD w seenWord 0) (getD x seenWord 0))) markWord (max (getD w markWord 0) (getD x markWord 0)) → Restore w w′ i Done
+      done g x w′ e d =
+          let o = forward w f in
+          let p = forward i g in
+          inr ((λ n. n l), inr ((λ n. n f), inr ((λ n. n g), record { state = stateOf w; image = stateOf i; holds = o; image-holds = p; left = d ∙ rw e (left-words o p); said = refl })))

@@ -1,0 +1,94 @@
+-- `restore::restore` meets its contract.
+-- Assumes nothing.
+use mathlib.Core.Path.{_≡_}
+use native.Mathlib.Omega.{arith}
+use lib.ListN.{length}
+use Rattle.model.specs.WellFormed.{WellFormed}
+use Rattle.inspect.proofs.Decisions.{decided, refuted}
+use Rattle.restore.proofs.Restored.{headed, wrong-size, bad-words, bad-image, done}
+use borrow.Author.Needs.{needs}
+use Rattle.restore.proofs.restore.Statement.{statement}
+use Rattle.restore.proofs.restore.Tie as tie
+
+-- behind the second check the first one has passed
+abbrev passed : tie.Else3 → tie.Else2
+passed c = c .before .before
+
+as-long : (c : tie.Else1) → length (c .before .before .before .args .image .now) ≡ length (c .before .before .before .args .a .now)
+as-long c = omega arith
+
+formed : (c : tie.Else2) → WellFormed (c .before .before .before .before .before .before .args .a .now)
+formed c = decided (c .before .well-formed .result) (c .before .well-formed .ensures) (c .if2 .left)
+
+image-formed : (c : tie.Else3) → WellFormed ((passed c) .before .before .before .before .before .before .args .image .now)
+image-formed c = decided (c .before .well-formed2 .result) (c .before .well-formed2 .ensures) (c .if3 .left)
+
+returns : tie.Need-returns
+returns c =
+    let x = c .before .before .before .args in
+    wrong-size (x .a .now) (x .image .now) (λ e. omega arith)
+
+well-formed-requires : tie.Need-well-formed-requires
+well-formed-requires c κs = search needs
+
+same-length : tie.Need-same-length
+same-length c = search needs
+
+returns-2 : tie.Need-returns-2
+returns-2 c =
+    let x = c .before .before .before .before .before .before .args in
+    bad-words (x .a .now) (x .image .now) (as-long (c .before .before .before)) (refuted (c .before .well-formed .result) (c .before .well-formed .ensures) (c .if2 .taken))
+
+well-formed-requires-2 : tie.Need-well-formed-requires-2
+well-formed-requires-2 c κs = search needs
+
+same-length-2 : tie.Need-same-length-2
+same-length-2 c = search needs
+
+returns-3 : tie.Need-returns-3
+returns-3 c =
+    let e = c .before .before in
+    let x = e .before .before .before .before .before .before .args in
+    bad-image (x .a .now) (x .image .now) (as-long (e .before .before .before)) (formed e) (refuted (c .before .well-formed2 .result) (c .before .well-formed2 .ensures) (c .if3 .taken))
+
+slice-read-seen : tie.Need-slice-read-seen
+slice-read-seen c = omega (arith, headed (formed (passed (c .before))))
+
+slice-read-mark : tie.Need-slice-read-mark
+slice-read-mark c = omega (arith, headed (formed (passed (c .before .before))))
+
+copy-over-requires : tie.Need-copy-over-requires
+copy-over-requires c κs = search needs
+
+keep-mark-requires : tie.Need-keep-mark-requires
+keep-mark-requires c κs =
+    let e = passed (c .before .before .before .before .before .before .before) in
+    rw (c .before .before .before .copy-over .ensures) (omega (arith, headed (formed e), as-long (e .before .before .before)))
+
+same-length-3 : tie.Need-same-length-3
+same-length-3 c = search needs
+
+returns-4 : tie.Need-returns-4
+returns-4 c =
+    let g = c .before .before .before .before .before .before .before .before .before .before in
+    let e = passed g in
+    let x = e .before .before .before .before .before .before .args in
+    done (x .a .now) (x .image .now) (as-long (e .before .before .before)) (formed e) (image-formed g) _ _ (c .before .before .before .before .before .before .copy-over .ensures) (c .before .before .keep-mark .ensures)
+
+pub restore-spec : {M : Type 1} → statement M
+restore-spec =
+    tie.close
+    (tie.spec
+    returns
+    well-formed-requires
+    same-length
+    returns-2
+    well-formed-requires-2
+    same-length-2
+    returns-3
+    slice-read-seen
+    slice-read-mark
+    copy-over-requires
+    keep-mark-requires
+    same-length-3
+    returns-4)

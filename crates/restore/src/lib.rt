@@ -1,0 +1,67 @@
+// Restore: an image's words over the arena's, but the mark never falls.
+use checker::well_formed;
+use model::Answer;
+ghost use mathlib.Core.Path.{_≡_};
+ghost use Prim.Native.Nat.{_≤_, max};
+ghost use lib.ListN.{length, getD, set};
+ghost use Rattle.model.specs.Layout.{headerSize, seenWord, markWord};
+ghost use Rattle.model.specs.Promise.{Restore};
+
+// The places of header words.
+const SEEN: usize = 8;
+
+const MARK: usize = 9;
+
+// The larger of two words.
+fn larger(x: u64, y: u64) -> u64
+    ensures { λ r. ⌜ r ≡ max x y ⌝ }
+{
+    if x < y {
+        return y;
+    }
+    x
+}
+
+// Copies every word of as long a slice.
+fn copy_over(a: &mut [u64], image: &[u64])
+    requires { ⌜ length (now image) ≡ length (now a) ⌝ }
+    ensures { λ _. ⌜ now (a .exit) ≡ now (image .entry) ⌝ }
+{
+    let mut i = 0;
+    while i < a.len() {
+        let t = image[i];
+        a[i] = t;
+        i += 1;
+    }
+}
+
+// Raises the mark's two words to those of another mark, where they are lower.
+fn keep_mark(a: &mut [u64], seen: u64, mark: u64)
+    requires { ⌜ headerSize ≤ length (now a) ⌝ }
+    ensures { λ _. ⌜ now (a .exit) ≡ set (set (now (a .entry)) seenWord (max seen (getD (now (a .entry)) seenWord 0))) markWord (max mark (getD (now (a .entry)) markWord 0)) ⌝ }
+{
+    let s = larger(seen, a[SEEN]);
+    let m = larger(mark, a[MARK]);
+    a[SEEN] = s;
+    a[MARK] = m;
+}
+
+// Copies the image's words over the arena; seen is 1 if either had it, and the mark is the larger of those seen.
+pub fn restore(a: &mut [u64], image: &[u64]) -> Answer
+    ensures { λ r. ⌜ Restore (now (a .entry)) (now (a .exit)) (now (image .entry)) r ⌝ }
+{
+    if image.len() != a.len() {
+        return Answer::BadSize;
+    }
+    if !well_formed(a) {
+        return Answer::BadArena;
+    }
+    if !well_formed(image) {
+        return Answer::BadImage;
+    }
+    let seen = a[SEEN];
+    let mark = a[MARK];
+    copy_over(a, image);
+    keep_mark(a, seen, mark);
+    Answer::Done
+}

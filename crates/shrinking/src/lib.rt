@@ -1,0 +1,1 @@
+// No code: what a removal's steps on the list of nodes make of a tree that stands there.
