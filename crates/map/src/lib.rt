@@ -6,7 +6,21 @@ use search::SearchResult;
 use search::search_tree;
 ghost use mathlib.Core.Path.{_≡_};
 ghost use Rattle.model.specs.State as model;
-ghost use Rattle.model.specs.Promise.{Call};
+ghost use Rattle.model.specs.WellFormed.{WellFormed};
+ghost use Rattle.model.specs.Promise.{Holds, Call};
+
+// The value of a key, behind a checked arena.
+pub fn look(a: &[u64], key: u64) -> Answer
+    requires { ⌜ WellFormed (now a) ⌝ }
+    ensures { λ r. ⌜ ((s : model.State) → Holds (now (a .entry)) s → model.get key s ≡ record { answer = r; state = s }) ⌝ }
+{
+    let SearchResult::Found(kv) = search_tree(a, key) else {
+        return Answer::Absent;
+    };
+    let node = kv.node;
+    let at = kv.at;
+    Answer::Value(val(a, node, at))
+}
 
 // The value of a key.
 pub fn get(a: &[u64], key: u64) -> Answer
@@ -15,12 +29,7 @@ pub fn get(a: &[u64], key: u64) -> Answer
     if !well_formed(a) {
         return Answer::BadArena;
     }
-    let SearchResult::Found(kv) = search_tree(a, key) else {
-        return Answer::Absent;
-    };
-    let node = kv.node;
-    let at = kv.at;
-    Answer::Value(val(a, node, at))
+    look(a, key)
 }
 
 // Puts a pair: a present key's value is replaced, and answered.

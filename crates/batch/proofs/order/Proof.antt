@@ -1,0 +1,36 @@
+-- `batch::order` meets its contract.
+-- Assumes nothing.
+use mathlib.Core.Logic.{inr}
+use borrow.Author.Needs.{needs}
+use Rattle.model.specs.WellFormed.{WellFormed}
+use Rattle.model.proofs.Ends.{call-refused}
+use Rattle.inspect.proofs.Decisions.{decided, refuted}
+use Rattle.insert.proofs.Ends.{called}
+use Rattle.batch.proofs.order.Statement.{statement}
+use Rattle.batch.proofs.order.Tie as tie
+
+formed : (c : tie.Else1) → WellFormed (c .before .before .before .before .args .a .now)
+formed c = decided (c .before .well-formed .result) (c .before .well-formed .ensures) (c .if1 .left)
+
+well-formed-requires : tie.Need-well-formed-requires
+well-formed-requires c κs = search needs
+
+same-length : tie.Need-same-length
+same-length c = search needs
+
+returns : tie.Need-returns
+returns c = call-refused _ (refuted (c .before .well-formed .result) (c .before .well-formed .ensures) (c .if1 .taken))
+
+run-requires : tie.Need-run-requires
+run-requires c κs = formed (c .before)
+
+same-length-2 : tie.Need-same-length-2
+same-length-2 c = search needs
+
+returns-2 : tie.Need-returns-2
+returns-2 c = let f = formed (c .before .before .before .before) in inr ((λ b. b f), called _ f (c .before .before .run .ensures))
+
+pub order-spec : {M : Type 1} → statement M
+order-spec =
+    tie.close
+    (tie.spec well-formed-requires same-length returns run-requires same-length-2 returns-2)
