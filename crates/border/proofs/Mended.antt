@@ -16,7 +16,7 @@ use Rattle.model.specs.Sound.{Sound}
 use Rattle.model.proofs.Sizes.{FullWhole, to-full}
 use Rattle.model.proofs.Border.{Bordered, fix-flat, fix-has, fix-full}
 use Rattle.standing.proofs.Scenes.{closed-words}
-use Rattle.fix.specs.Repairs.{Rest, restOf, ClosedIn}
+use Rattle.standing.specs.Heads.{Rest, restOf, ClosedIn}
 use Rattle.border.specs.Borders.{Rooted, border, Bordering, mended}
 
 module _ {s : Side} {st : State} (b : Bordering s st) where

@@ -24,7 +24,7 @@ use Rattle.standing.specs.Standing.{Hole}
 use Rattle.standing.proofs.Scenes.{zoom-in}
 use Rattle.shrinking.proofs.Steps.{beside-high, beside-low, hole-low, hole-high}
 use Rattle.fix.specs.declared.BalancingContext.{BalancingContext}
-use Rattle.fix.specs.Repairs.{Rest, HoleIn, ClosedIn}
+use Rattle.standing.specs.Heads.{Rest, HoleIn, ClosedIn}
 use Rattle.fix.proofs.Holes.{closed-in, node-within, node-long, node-most, left-sibling, right-sibling, own-edge}
 use Rattle.fix.proofs.Balances.{MergeCall, StealCall, Steals, contextOf, Neighbours, word-left, word-right, merge-hole, steal-in, steal-hole}
 use Rattle.border.specs.Borders.{Some, Rooted, Topped, Descending, DescendsIn, down}

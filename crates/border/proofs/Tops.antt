@@ -12,7 +12,8 @@ use Rattle.model.specs.Border.{dropTops}
 use Rattle.model.specs.Remove.{pop}
 use Rattle.node.specs.Reading.{Within, Has}
 use Rattle.internal.specs.Inner.{PopReady}
-use Rattle.fix.specs.Repairs.{Rest, HoleIn, ClosedIn, Emptied}
+use Rattle.standing.specs.Heads.{Rest, HoleIn, ClosedIn}
+use Rattle.fix.specs.Repairs.{Emptied}
 use Rattle.fix.proofs.Holes.{hole-header, hole-long, node-within, node-long}
 use Rattle.fix.proofs.Emptying.{PopCall, emptied-in, emptied-popped}
 use Rattle.border.specs.Borders.{Some, Rooted, Topped, tops}

@@ -16,7 +16,7 @@ use Rattle.model.specs.Nodes.{Grown}
 use Rattle.model.specs.Insert.{Side}
 use Rattle.model.specs.Border.{topsOf, downOf, fixDown, fixBorder}
 use Rattle.model.proofs.Border.{Bordered}
-use Rattle.fix.specs.Repairs.{Rest, HoleIn}
+use Rattle.standing.specs.Heads.{Rest, HoleIn}
 
 abbrev pub tops : Grown → Grown
 tops t = topsOf (t .whole .height) (t .whole .root) (t .free)

@@ -2,20 +2,20 @@
 use balance::bulk_steal_left;
 use balance::bulk_steal_right;
 use balance::do_merge;
-use fix::MIN_LEN;
 use fix::can_merge;
 use internal::pop_internal_level;
+use node::HEIGHT;
+use node::MIN_LEN;
 use node::NodeNo;
 use node::Place;
+use node::ROOT;
 use node::edge;
 use node::len;
-use store::HEIGHT;
-use store::ROOT;
 ghost use mathlib.Core.Path.{_≡_};
 ghost use Prim.Native.Nat.{ℕ, suc};
 ghost use Rattle.model.specs.Insert.{left, right};
 ghost use Rattle.model.specs.Nodes.{Grown};
-ghost use Rattle.fix.specs.Repairs.{Rest};
+ghost use Rattle.standing.specs.Heads.{Rest};
 ghost use Rattle.border.specs.Borders.{Rooted, RootedIn, Topped, ToppedIn, Descending, DescendsIn, tops, down, border};
 
 // Drops empty tops, down to a leaf.

@@ -7,10 +7,21 @@ use inspect::chain;
 use inspect::marked;
 use inspect::own;
 use model::Answer;
+use node::COUNT;
+use node::FIRST_FREE;
+use node::FORMAT;
+use node::FREE_NODES;
 use node::HEADER;
+use node::HEIGHT;
+use node::MARK;
+use node::MIN_LEN;
 use node::NONE;
 use node::NodeNo;
+use node::OFFSET;
+use node::PAIRS;
 use node::Place;
+use node::ROOT;
+use node::SEEN;
 use node::WORDS;
 use node::edge;
 use node::key;
@@ -26,30 +37,6 @@ ghost use Rattle.node.specs.Reading.{Within};
 ghost use Rattle.inspect.specs.Tests.{Decides, reached};
 ghost use Rattle.checker.specs.Walks.{Said, keyTask, keysTask, childOf, edgesTask, nodeTask};
 ghost use Rattle.checker.specs.Whole.{Heading, tree, start, Finished};
-
-// The header's words.
-const FORMAT: usize = 0;
-
-const COUNT: usize = 1;
-
-const OFFSET: usize = 2;
-
-const ROOT: usize = 3;
-
-const HEIGHT: usize = 4;
-
-const PAIRS: usize = 5;
-
-const FIRST_FREE: usize = 6;
-
-const FREE: usize = 7;
-
-const SEEN: usize = 8;
-
-const MARK: usize = 9;
-
-// The pairs that a node below the root holds at least.
-const LEAST: usize = 5;
 
 // No well-formed tree is higher: so many nodes do not fit.
 const HIGHEST: u64 = 6;
@@ -112,7 +99,7 @@ fn child(a: &[u64], node: NodeNo, at: Place, below: usize) -> Visit
 {
     Visit {
         below,
-        fewest: LEAST,
+        fewest: MIN_LEN,
         node: edge(a, node, at),
         parent: node.0 as u64,
         place: at,
@@ -206,7 +193,7 @@ fn heading(a: &[u64]) -> bool
     if a[HEIGHT] > HIGHEST {
         return false;
     }
-    if a[FREE] > count {
+    if a[FREE_NODES] > count {
         return false;
     }
     true
@@ -224,7 +211,7 @@ fn finished(a: &[u64], end: Walk) -> bool
     if end.pairs != 0 {
         return false;
     }
-    if !chain(a, a[COUNT] as usize, a[FIRST_FREE], a[FREE]) {
+    if !chain(a, a[COUNT] as usize, a[FIRST_FREE], a[FREE_NODES]) {
         return false;
     }
     marked(a[SEEN], a[MARK], last)
@@ -245,7 +232,7 @@ fn walk_tree(a: &[u64]) -> Checked
         place: Place(0),
     };
     let start = Walk {
-        nodes: count - a[FREE] as usize,
+        nodes: count - a[FREE_NODES] as usize,
         pairs: a[PAIRS] as usize,
         last: Last::Start,
     };

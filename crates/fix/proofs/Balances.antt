@@ -27,7 +27,8 @@ use Rattle.shrinking.proofs.Steps.{left-in, right-in, left-long, right-long, me
 use Rattle.fix.specs.declared.BalancingContext.{BalancingContext}
 use Rattle.fix.specs.declared.ParentKv.{ParentKv}
 use Rattle.fix.specs.declared.ParentKv.the-variants.{Left, Right, Root}
-use Rattle.fix.specs.Repairs.{Rest, headWords, topOf, HoleIn, ClosedIn, Mending, Emptied, sibling, chosen}
+use Rattle.standing.specs.Heads.{Rest, headWords, topOf, HoleIn, ClosedIn}
+use Rattle.fix.specs.Repairs.{Mending, Emptied, sibling, chosen}
 use Rattle.fix.proofs.Holes.{closed-in, pop-keeps, hole-header, free-few}
 
 -- ---- what the store's calls are known to do

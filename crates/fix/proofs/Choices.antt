@@ -16,7 +16,8 @@ use Rattle.node.specs.declared.Ascent.the-variants as ascent
 use Rattle.node.specs.Reading.{Within, ascentOf}
 use Rattle.fix.specs.declared.ParentKv.{ParentKv}
 use Rattle.fix.specs.declared.ParentKv.the-variants.{Left, Right, Root}
-use Rattle.fix.specs.Repairs.{Rest, HoleIn, Mending, sibling, chosen}
+use Rattle.standing.specs.Heads.{Rest, HoleIn}
+use Rattle.fix.specs.Repairs.{Mending, sibling, chosen}
 use Rattle.fix.proofs.Holes.{hangs, node-within, node-long, parent-within, place-most, left-sibling, right-sibling, ascent-is}
 
 module _ {w : List ℕ} {g : Rest} {node : ℕ} {t : Grown} (m : Mending w g node t) where

@@ -13,7 +13,8 @@ use Rattle.model.specs.Remove.{pop, popBy}
 use Rattle.node.specs.Reading.{Has}
 use Rattle.internal.specs.Inner.{PopReady, popHead, popNodes}
 use Rattle.shrinking.proofs.Steps.{only-child, pop-ready, pop-long, pop-step}
-use Rattle.fix.specs.Repairs.{Rest, headWords, HoleIn, ClosedIn, Emptied, Ended}
+use Rattle.standing.specs.Heads.{Rest, headWords, HoleIn, ClosedIn}
+use Rattle.fix.specs.Repairs.{Emptied, Ended}
 use Rattle.fix.proofs.Holes.{hole-header, hole-long, free-few}
 
 -- what the repair left, by its answer

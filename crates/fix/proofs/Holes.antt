@@ -23,19 +23,12 @@ use Rattle.standing.specs.Kept.{Child}
 use Rattle.standing.specs.Standing.{numbered, rootOf, Hole}
 use Rattle.standing.proofs.Leads.{one-self, link-parent, link-place}
 use Rattle.standing.proofs.Scenes.{close}
+use Rattle.standing.proofs.Heads.{plug-root, plug-top}
 use Rattle.shrinking.proofs.Items.{body-parts, pairIn, edgeIn, column-long, there}
 use Rattle.shrinking.proofs.Steps.{content-pairs}
-use Rattle.fix.specs.Repairs.{Rest, headWords, topOf, HoleIn, ClosedIn}
+use Rattle.standing.specs.Heads.{Rest, headWords, topOf, HoleIn, ClosedIn}
 
 -- ---- a whole tree again
-
-pub plug-root : {h : ℕ} (c : Ctx h) (x : Tree h) → rootNo ((plug c x) .height) ((plug c x) .root) ≡ rootOf c (rootNo h x)
-plug-root top x = refl
-plug-root (under f c) x = plug-root c (fill (f .no) (f .left) x (f .right))
-
-pub plug-top : {h : ℕ} (c : Ctx h) (x : Tree h) → (plug c x) .height ≡ topOf c
-plug-top top x = refl
-plug-top (under f c) x = plug-top c (fill (f .no) (f .left) x (f .right))
 
 pub closed-in : {w : List ℕ} {g : Rest} {h : ℕ} (c : Ctx h) (t : Tree h) (free : List ℕ) → HoleIn w g c t free → ClosedIn w g (record { whole = plug c t; free = free })
 closed-in c t free H = record { nodes = H .nodes; arena = rw (plug-root c t, plug-top c t) (H .arena); stand = close c t free (H .stand); many = H .many }

@@ -14,39 +14,11 @@ use Rattle.model.specs.Words.{rootNo, firstOr}
 use Rattle.model.specs.Remove.{pop, shrink}
 use Rattle.model.proofs.Sizes.{FullCtx, Short}
 use Rattle.standing.specs.Standing.{rootOf, Hole}
+use Rattle.standing.specs.Heads.{Rest, HoleIn, ClosedIn}
 use Rattle.fix.specs.declared.ParentKv.{ParentKv}
 use Rattle.fix.specs.declared.ParentKv.the-variants.{Left, Right, Root}
 use Rattle.fix.specs.declared.Fixed.{Fixed}
 use Rattle.fix.specs.declared.Fixed.the-variants.{Merged, Whole, EmptyRoot}
-
--- the header words that the repair leaves alone
-pub record Rest : Type 0 where
-  pub size : ℕ
-  pub pairs : ℕ
-  pub seen : ℕ
-  pub mark : ℕ
-
-abbrev pub restOf : State → Rest
-restOf s = record { size = s .size; pairs = length (list s); seen = seenOf (s .mark); mark = markOf (s .mark) }
-
-abbrev pub headWords : Rest → ℕ → ℕ → List ℕ → List ℕ
-headWords g root height free = formatNumber ∷ g .size ∷ headerSize ∷ root ∷ height ∷ g .pairs ∷ firstOr free ∷ length free ∷ g .seen ∷ g .mark ∷ []
-
--- the height of the tree that a way leads up in
-abbrev pub topOf : {h : ℕ} → Ctx h → ℕ
-topOf (top {h = h}) = h
-topOf (under f c) = topOf c
-
--- the words are a tree with a hole that t fills
-pub record HoleIn (w : List ℕ) (g : Rest) {h : ℕ} (c : Ctx h) (t : Tree h) (free : List ℕ) : Type 0 where
-  pub nodes : List NodeVal
-  pub arena : Arena w (headWords g (rootOf c (rootNo h t)) (pred (topOf c)) free) nodes
-  pub stand : Hole nodes c t free
-  pub many : length nodes ≡ g .size
-
--- they are a whole tree
-abbrev pub ClosedIn : List ℕ → Rest → Grown → Type 0
-ClosedIn w g t = HoleIn w g {h = t .whole .height} top (t .whole .root) (t .free)
 
 -- the repair is going to t: the node `node` has lost a pair
 pub record Mending (w : List ℕ) (g : Rest) (node : ℕ) (t : Grown) : Type 0 where

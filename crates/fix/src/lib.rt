@@ -3,6 +3,8 @@ use balance::bulk_steal_left;
 use balance::bulk_steal_right;
 use balance::do_merge;
 use node::Ascent;
+use node::CAPACITY;
+use node::MIN_LEN;
 use node::NodeNo;
 use node::Place;
 use node::ascend;
@@ -14,12 +16,8 @@ ghost use lib.Dec.{leb};
 ghost use Rattle.model.specs.Layout.{most, wordAt, lengthWord};
 ghost use Rattle.model.specs.Nodes.{Grown};
 ghost use Rattle.node.specs.Reading.{Within};
-ghost use Rattle.fix.specs.Repairs.{Rest, ClosedIn, Mending, Mends, Emptied, chosen, Fixing, Ended};
-
-// The pairs that a node holds at most, and at least if it is not the root.
-pub const CAPACITY: usize = 11;
-
-pub const MIN_LEN: usize = 5;
+ghost use Rattle.standing.specs.Heads.{Rest, ClosedIn};
+ghost use Rattle.fix.specs.Repairs.{Mending, Mends, Emptied, chosen, Fixing, Ended};
 
 // Two neighbours, and the place of the pair between them in their parent.
 pub struct BalancingContext {

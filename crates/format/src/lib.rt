@@ -1,10 +1,15 @@
 // Formatting: node 0 becomes an empty leaf root, and 1, 2, .. N-1 are chained in rising order.
 use model::Answer;
+use node::COUNT;
+use node::FIRST_FREE;
+use node::FORMAT;
 use node::FREE;
+use node::FREE_NODES;
 use node::HEADER;
 use node::LEAF;
 use node::NONE;
 use node::NodeNo;
+use node::OFFSET;
 use node::PARENT;
 use node::STATE;
 use node::WORDS;
@@ -19,17 +24,6 @@ ghost use Rattle.model.specs.State.{formatted};
 ghost use Rattle.model.specs.Words.{firstOr, headerOf, wordsOf};
 ghost use Rattle.model.specs.Promise.{Format};
 ghost use Rattle.format.specs.Formatting.{Counted, chainAfter, emptyNode, freeNodes};
-
-// The header's words that are not 0 in every formatted arena.
-const FORMAT: usize = 0;
-
-const COUNT: usize = 1;
-
-const OFFSET: usize = 2;
-
-const FIRST_FREE: usize = 6;
-
-const FREE_COUNT: usize = 7;
 
 // The most nodes.
 const LARGEST: usize = 65_535;
@@ -74,7 +68,7 @@ fn write_header(s: &mut [u64], count: usize)
     s[COUNT] = count as u64;
     s[OFFSET] = HEADER as u64;
     s[FIRST_FREE] = first;
-    s[FREE_COUNT] = free as u64;
+    s[FREE_NODES] = free as u64;
 }
 
 // The words of a node with no pairs.

@@ -20,8 +20,9 @@ use Rattle.internal.specs.Inner.{Branches}
 use Rattle.standing.specs.Kept.{Links, Kept}
 use Rattle.standing.specs.Standing.{edgesIn, content}
 use Rattle.growing.specs.Steps.{fitAt, FitsAt, Splits}
-use Rattle.shrinking.proofs.Items.{body-parts, pairIn, edgeIn}
+use Rattle.shrinking.proofs.Items.{body-parts, pairIn, edgeIn, low-content, high-content}
 use Rattle.shrinking.proofs.Pairs.{pairs-kept, pairs-body}
+use Rattle.shrinking.proofs.Steps.{content-pairs, content-edges, branching}
 use Rattle.growing.proofs.Puts.{fit-kept, fit-body, split-low, split-high}
 
 abbrev item : Pair → ℕ → Item ℕ
@@ -37,44 +38,26 @@ abbrev pub Takes : ℕ → List NodeVal → ℕ → Type 0
 Takes zero ns y = Unit {0}
 Takes (suc h) ns y = (y < length ns) × (1 ≤ nth ns y .state) × (nth ns y .parent ≡ none)
 
-all-of : (P : ℕ → Type 0) (l : List ℕ) → ((j : ℕ) → j < length l → P (getD l j 0)) → All P l
-all-of P [] f = tt
-all-of P (x ∷ l) f = (f 0 (omega arith), all-of P l (λ j h. f (suc j) (omega arith)))
-
 insert-past : (e : ℕ) (l : List ℕ) (i y : ℕ) → insertAt (e ∷ l) (i + 1) y ≡ e ∷ insertAt l i y
 unfolding insertAt
 insert-past e l i y = rw add-one refl
 
 module _ (ns : List NodeVal) (L : Links ns) (few : length ns ≤ largestCount) (n e : ℕ) (r : List (Item ℕ)) (o : n < length ns) where
-  -- how many pairs it holds
-  pub content-pairs : (h : ℕ) → bodyOf (nth ns n) ≡ content h e r → length (nth ns n .pairs) ≡ length r
-  content-pairs h b = ap length (body-parts (nth ns n) _ b .1) ∙ length-map r pairIn
-
-  content-edges : (h : ℕ) → bodyOf (nth ns n) ≡ content (suc h) e r → length (nth ns n .edges) ≡ suc (length r)
-  content-edges h b = ap length (body-parts (nth ns n) _ b .2) ∙ ap suc (length-map r edgeIn)
-
-  pub branching : (h : ℕ) → bodyOf (nth ns n) ≡ content (suc h) e r → Branches ns n
-  branching h b = record {
-    state-is = body-parts (nth ns n) _ b .0;
-    edges-are = omega (arith, content-pairs (suc h) b, content-edges h b);
-    lead = all-of (λ c. c < length ns) (nth ns n .edges) (λ j l. L n j l .within);
-  }
-
   pub splitting : (h : ℕ) → bodyOf (nth ns n) ≡ content h e r → Splits h ns n
   splitting zero b = let v = body-parts (nth ns n) _ b in record { state-is = v .0; no-edges = v .2 }
-  splitting (suc h) b = branching h b
+  splitting (suc h) b = branching ns L n e r o h b
 
   -- ---- an item put in
 
   module _ (i y : ℕ) (l : i ≤ length r) where
     pub fitting-ready : (h : ℕ) → bodyOf (nth ns n) ≡ content h e r → length r < most → Takes h ns y → FitsAt h ns n i y
-    fitting-ready zero b m t = record { node = o; room = rw (content-pairs 0 b) m; place = rw (content-pairs 0 b) l }
-    fitting-ready (suc h) b m t = record { room = record { node = o; room = rw (content-pairs (suc h) b) m; place = rw (content-pairs (suc h) b) l }; branches = branching h b; child = t .0 }
+    fitting-ready zero b m t = record { node = o; room = rw (content-pairs ns L n e r o 0 b) m; place = rw (content-pairs ns L n e r o 0 b) l }
+    fitting-ready (suc h) b m t = record { room = record { node = o; room = rw (content-pairs ns L n e r o (suc h) b) m; place = rw (content-pairs ns L n e r o (suc h) b) l }; branches = branching ns L n e r o h b; child = t .0 }
 
     module _ (p : Pair) where
       pub fitting-kept : (h : ℕ) → bodyOf (nth ns n) ≡ content h e r → Takes h ns y → Kept ns (fitAt h ns n i p y) (n ∷ []) (newChild h y)
       fitting-kept zero b t = pairs-kept ns L n o (insertAt (nth ns n .pairs) i p)
-      fitting-kept (suc h) b t = fit-kept ns L few n i p y o (omega (arith, content-edges h b)) (t .0) (t .1) (t .2)
+      fitting-kept (suc h) b t = fit-kept ns L few n i p y o (omega (arith, content-edges ns L n e r o h b, content-pairs ns L n e r o (suc h) b)) (t .0) (t .1) (t .2)
 
       pub fitting-body : (h : ℕ) → bodyOf (nth ns n) ≡ content h e r → Takes h ns y → bodyOf (nth (fitAt h ns n i p y) n) ≡ content h e (insertAt r i (record { pair = p; edge = y }))
       fitting-body zero b t =
@@ -82,35 +65,14 @@ module _ (ns : List NodeVal) (L : Links ns) (few : length ns ≤ largestCount) (
           pairs-body ns L n o (insertAt (nth ns n .pairs) i p) ∙ rw (v .0, v .1, v .2, map-insert pairIn r i (item p y)) refl
       fitting-body (suc h) b t =
           let v = body-parts (nth ns n) _ b in
-          fit-body ns L few n i p y o (omega (arith, content-edges h b)) (t .0) (t .1) (t .2)
+          fit-body ns L few n i p y o (omega (arith, content-edges ns L n e r o h b, content-pairs ns L n e r o (suc h) b)) (t .0) (t .1) (t .2)
           ∙ rw (v .0, v .1, v .2, map-insert pairIn r i (item p y), map-insert edgeIn r i (item p y)) (ap (λ (es : List ℕ). record { state = kind (suc h); pairs = insertAt (map pairIn r) i p; edges = es }) (insert-past e (map edgeIn r) i y))
 
   -- ---- the halves
 
   module _ (m next i : ℕ) (om : m < length ns) (d : n ≢ m) (f : nth ns m ≡ freeVal next) where
     pub low-body : (h : ℕ) → bodyOf (nth ns n) ≡ content h e r → bodyOf (nth (splitNodes ns n m i) n) ≡ content h e (take i r)
-    low-body h b = split-low ns L few n m next i o om d f ∙ (let v = body-parts (nth ns n) _ b in rw (v .0, v .1, v .2, add-one) (go h))
-      where
-        go : (h : ℕ) → record { state = kind h; pairs = take i (map pairIn r); edges = take (suc i) (edgesIn h (e ∷ map edgeIn r)) } ≡ content h e (take i r)
-        go zero = rw (map-take pairIn i r) refl
-        go (suc h) = rw (map-take pairIn i r, map-take edgeIn i r) refl
+    low-body h b = split-low ns L few n m next i o om d f ∙ (let v = body-parts (nth ns n) _ b in rw (v .0, v .1, v .2, add-one) (low-content i h e r))
 
     pub high-body : (h : ℕ) → bodyOf (nth ns n) ≡ content h e r → i < length r → bodyOf (nth (splitNodes ns n m i) m) ≡ content h (edgeOf e (drop i r)) (tail (drop i r))
-    high-body h b l = split-high ns L few n m next i o om d f ∙ (let v = body-parts (nth ns n) _ b in rw (v .0, v .1, v .2, add-one) (go h))
-      where
-        tail-drop : (i : ℕ) (l : List (Item ℕ)) → tail (drop i l) ≡ drop (suc i) l
-        tail-drop zero [] = refl
-        tail-drop zero (x ∷ l) = refl
-        tail-drop (suc i) [] = refl
-        tail-drop (suc i) (x ∷ l) = tail-drop i l
-
-        first : (q : List (Item ℕ)) → 1 ≤ length q → map edgeIn q ≡ edgeOf e q ∷ map edgeIn (tail q)
-        first [] l = absurd (not-suc-le-zero l)
-        first (x ∷ q) l = refl
-
-        pairs-are : drop (suc i) (map pairIn r) ≡ map pairIn (tail (drop i r))
-        pairs-are = sym (ap (map pairIn) (tail-drop i r) ∙ map-drop pairIn (suc i) r)
-
-        go : (h : ℕ) → record { state = kind h; pairs = drop (suc i) (map pairIn r); edges = drop (suc i) (edgesIn h (e ∷ map edgeIn r)) } ≡ content h (edgeOf e (drop i r)) (tail (drop i r))
-        go zero = rw pairs-are refl
-        go (suc h) = rw pairs-are (ap (λ (es : List ℕ). record { state = kind (suc h); pairs = map pairIn (tail (drop i r)); edges = es }) (sym (map-drop edgeIn i r) ∙ first (drop i r) (omega (arith, length-drop i r))))
+    high-body h b l = split-high ns L few n m next i o om d f ∙ (let v = body-parts (nth ns n) _ b in rw (v .0, v .1, v .2, add-one) (high-content i h e r l))

@@ -34,11 +34,13 @@ use Rattle.standing.specs.Standing.{numbered, rootOf, Open}
 use Rattle.standing.proofs.Leads.{one-self, link-parent, link-place}
 use Rattle.standing.proofs.Relinks.{body-edges}
 use Rattle.standing.proofs.Scenes.{closed-of, enter}
-use Rattle.growing.specs.Climbs.{Rest, restOf, headWords, topOf, depth, OpenIn, ClosedIn, Climbing, Going}
+use Rattle.standing.specs.Heads.{Rest, restOf, headWords, topOf, ClosedIn}
+use Rattle.growing.specs.Climbs.{depth, OpenIn, Climbing, Going}
 use Rattle.shrinking.proofs.Items.{edgeIn}
 use Rattle.growing.proofs.Bodies.{}
 use Rattle.growing.proofs.Steps.{start, node-in, new-root, push-ready, push-long, push-step}
-use Rattle.growing.proofs.Gaps.{FitIn, FitCall, plug-root, plug-top, with-first, fit-in, fit-held}
+use Rattle.standing.proofs.Heads.{plug-root, plug-top}
+use Rattle.growing.proofs.Gaps.{FitIn, FitCall, with-first, fit-in, fit-held}
 
 -- ---- nodes enough
 

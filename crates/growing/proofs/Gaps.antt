@@ -20,8 +20,10 @@ use Rattle.store.specs.Links.{firstFree, takeHead}
 use Rattle.leaf.specs.Split.{splitNodes, CutReady, Cut}
 use Rattle.standing.specs.Standing.{rootOf}
 use Rattle.standing.proofs.Scenes.{close}
+use Rattle.standing.proofs.Heads.{plug-root, plug-top}
 use Rattle.growing.specs.Steps.{fitAt, FitsAt, Splits, half}
-use Rattle.growing.specs.Climbs.{Rest, headWords, topOf, OpenIn, ClosedIn, Gap, Fitted, Risen}
+use Rattle.standing.specs.Heads.{Rest, headWords, topOf, ClosedIn}
+use Rattle.growing.specs.Climbs.{OpenIn, Gap, Fitted, Risen}
 use Rattle.growing.proofs.Steps.{node-in, node-pairs, fit-ready, fitted, fit-long, fit-step, cut-ready, half-ready, risen, split-long, split-step}
 
 -- ---- what the store's calls are known to do, for a leaf (0) and an internal node alike
@@ -37,16 +39,6 @@ CutIn h w n i = Has w (λ hd ns. CutReady hd ns n i × Splits h ns n)
 
 abbrev pub CutCall : ℕ → List ℕ → List ℕ → ℕ → ℕ → ℕ → Pair → Type 0
 CutCall h w w′ n i r p = (hd : List ℕ) (ns : List NodeVal) → CutReady hd ns n i → Splits h ns n → Arena w hd ns → Cut hd ns n i r p × Arena w′ (takeHead hd ns) (splitNodes ns n (firstFree hd) i)
-
--- ---- a whole tree again
-
-pub plug-root : {h : ℕ} (c : Ctx h) (x : Tree h) → rootNo ((plug c x) .height) ((plug c x) .root) ≡ rootOf c (rootNo h x)
-plug-root top x = refl
-plug-root (under f c) x = plug-root c (fill (f .no) (f .left) x (f .right))
-
-pub plug-top : {h : ℕ} (c : Ctx h) (x : Tree h) → (plug c x) .height ≡ topOf c
-plug-top top x = refl
-plug-top (under f c) x = plug-top c (fill (f .no) (f .left) x (f .right))
 
 -- a list that is not empty
 first-known : (l : List ℕ) → 1 ≤ length l → l ≡ taken l ∷ untaken l

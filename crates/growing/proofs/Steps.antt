@@ -34,10 +34,10 @@ use Rattle.standing.proofs.Changes.{kept-trans, kept-more}
 use Rattle.standing.proofs.Frames.{stands-kept, all-kept, way-kept, chain-kept}
 use Rattle.standing.proofs.Contents.{content-fill}
 use Rattle.growing.specs.Steps.{fitAt, FitsAt, Splits, half}
-use Rattle.shrinking.proofs.Steps.{root-in}
+use Rattle.shrinking.proofs.Steps.{content-pairs, root-in}
 use Rattle.growing.proofs.Puts.{Crowns, split-kept, split-loose, push-kept, push-body, push-root}
 use Rattle.shrinking.proofs.Items.{body-parts, pairIn}
-use Rattle.growing.proofs.Bodies.{newChild, Takes, content-pairs, splitting, fitting-ready, fitting-kept, fitting-body, low-body, high-body}
+use Rattle.growing.proofs.Bodies.{newChild, Takes, splitting, fitting-ready, fitting-kept, fitting-body, low-body, high-body}
 
 -- ---- the root, and a tree beside the hole
 
@@ -95,7 +95,7 @@ module _ {h : ℕ} (f : Frame (Tree h)) (c : Ctx (suc h)) (x y : Tree h) (free :
   node-long = length-map (node .rest) _ ∙ length-fill (f .no) (f .left) x (f .right)
 
   pub node-pairs : length (nth ns (f .no) .pairs) ≡ length (f .left) + length (f .right)
-  node-pairs = content-pairs ns (O .links) (O .few) (f .no) first rest node-in h node-body ∙ node-long
+  node-pairs = content-pairs ns (O .links) (f .no) first rest node-in h node-body ∙ node-long
 
   root-known : (nth ns (rootOf c (f .no)) .parent ≡ none) × (1 ≤ hasCtx (rootOf c (f .no)) (under f c))
   root-known = (link-parent (O .root), omega (arith, root-in c (f .no)))

@@ -14,25 +14,9 @@ use Rattle.model.specs.State.{State, list}
 use Rattle.model.specs.Words.{rootNo, firstOr}
 use Rattle.model.proofs.Climb.{halved}
 use Rattle.standing.specs.Standing.{rootOf, Open, Closed}
+use Rattle.standing.specs.Heads.{Rest, headWords, topOf, ClosedIn}
 
--- the header words that the climb leaves alone
-pub record Rest : Type 0 where
-  pub size : ℕ
-  pub pairs : ℕ
-  pub seen : ℕ
-  pub mark : ℕ
-
-abbrev pub restOf : State → Rest
-restOf s = record { size = s .size; pairs = length (list s); seen = seenOf (s .mark); mark = markOf (s .mark) }
-
-abbrev pub headWords : Rest → ℕ → ℕ → List ℕ → List ℕ
-headWords g root height free = formatNumber ∷ g .size ∷ headerSize ∷ root ∷ height ∷ g .pairs ∷ firstOr free ∷ length free ∷ g .seen ∷ g .mark ∷ []
-
--- the height of the tree that a way leads up in, and the levels above its hole
-abbrev pub topOf : {h : ℕ} → Ctx h → ℕ
-topOf (top {h = h}) = h
-topOf (under f c) = topOf c
-
+-- the levels above a way's hole
 abbrev pub depth : {h : ℕ} → Ctx h → ℕ
 depth top = 0
 depth (under f c) = suc (depth c)
@@ -42,13 +26,6 @@ pub record OpenIn (w : List ℕ) (g : Rest) {h : ℕ} (c : Ctx h) (x y : Tree h)
   pub nodes : List NodeVal
   pub arena : Arena w (headWords g (rootOf c (rootNo h x)) (pred (topOf c)) free) nodes
   pub stand : Open nodes c x y free
-  pub many : length nodes ≡ g .size
-
--- they are a whole tree
-pub record ClosedIn (w : List ℕ) (g : Rest) (t : Grown) : Type 0 where
-  pub nodes : List NodeVal
-  pub arena : Arena w (headWords g (rootNo (t .whole .height) (t .whole .root)) (pred (t .whole .height)) (t .free)) nodes
-  pub stand : Closed nodes (t .whole) (t .free)
   pub many : length nodes ≡ g .size
 
 -- a hole at the edge `at` of the node `node`, with h levels below its edges, and a tree `child` to stand right of it

@@ -38,9 +38,9 @@ use Rattle.search.specs.Results.{handle, spotted}
 use Rattle.navigate.specs.Places.{EdgeAt}
 use Rattle.standing.specs.Standing.{Hole}
 use Rattle.standing.proofs.Scenes.{closed-of, enter, close, closed-words}
-use Rattle.growing.specs.Climbs.{restOf, headWords, ClosedIn}
+use Rattle.standing.specs.Heads.{restOf, headWords, ClosedIn}
 use Rattle.shrinking.proofs.Pairs.{pair-ready, pair-is, replace-long, replace-step}
-use Rattle.growing.proofs.Gaps.{plug-root, plug-top}
+use Rattle.standing.proofs.Heads.{plug-root, plug-top}
 use Rattle.insert.specs.Inserts.{Placed, PutIn, spent, Does}
 
 -- ---- where the search ends

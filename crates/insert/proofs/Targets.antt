@@ -10,7 +10,8 @@ use Rattle.node.specs.declared.NodeNo.{NodeNo}
 use Rattle.node.specs.declared.Rising.{Rising}
 use Rattle.node.specs.Reading.{sideOf, risingOf}
 use Rattle.growing.specs.Steps.{half}
-use Rattle.growing.specs.Climbs.{Rest, Going}
+use Rattle.standing.specs.Heads.{Rest}
+use Rattle.growing.specs.Climbs.{Going}
 use Rattle.insert.specs.declared.Target.{Target}
 use Rattle.insert.specs.declared.Inserted.{Inserted}
 use Rattle.insert.specs.declared.Inserted.the-variants.{Fit, Split}

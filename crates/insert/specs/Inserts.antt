@@ -21,7 +21,8 @@ use Rattle.node.specs.Reading.{pairOf, ascentOf}
 use Rattle.leaf.specs.declared.SplitResult.{SplitResult}
 use Rattle.search.specs.declared.Handle.{Handle}
 use Rattle.navigate.specs.Places.{EdgeAt}
-use Rattle.growing.specs.Climbs.{Rest, restOf, ClosedIn, Gap, Fitted, Risen, Climbing}
+use Rattle.standing.specs.Heads.{Rest, restOf, ClosedIn}
+use Rattle.growing.specs.Climbs.{Gap, Fitted, Risen, Climbing}
 use Rattle.insert.specs.declared.Inserted.{Inserted}
 use Rattle.insert.specs.declared.Inserted.the-variants.{Fit, Split}
 use Rattle.insert.specs.declared.Target.{Target}

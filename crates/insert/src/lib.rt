@@ -4,18 +4,23 @@ use leaf::SplitResult;
 use leaf::replace_kv;
 use model::Answer;
 use node::Ascent;
+use node::CAPACITY;
+use node::FREE_NODES;
+use node::HEIGHT;
 use node::Kv;
 use node::LeftOrRight;
+use node::MARK;
 use node::NodeNo;
+use node::PAIRS;
 use node::Place;
+use node::SEEN;
 use node::ascend;
+use node::larger;
 use node::len;
 use node::splitpoint;
 use search::Handle;
 use search::SearchResult;
 use search::search_tree;
-use store::FREE_NODES;
-use store::HEIGHT;
 ghost use mathlib.Core.Path.{_≡_};
 ghost use mathlib.Core.List.{List};
 ghost use Prim.Native.Nat.{ℕ, suc, _≤_, max};
@@ -28,18 +33,9 @@ ghost use Rattle.model.specs.WellFormed.{WellFormed};
 ghost use Rattle.model.specs.Promise.{Holds};
 ghost use Rattle.node.specs.Reading.{pairOf};
 ghost use Rattle.navigate.specs.Places.{In, EdgeAt};
-ghost use Rattle.growing.specs.Climbs.{Rest, restOf, ClosedIn, Gap, Climbing};
+ghost use Rattle.standing.specs.Heads.{Rest, restOf, ClosedIn};
+ghost use Rattle.growing.specs.Climbs.{Gap, Climbing};
 ghost use Rattle.insert.specs.Inserts.{targetOf, Outcome, InnerGap, ClimbIn, AtRoot, Roomy, PutIn, spent, Does};
-
-// The pairs that a node holds at most.
-pub const CAPACITY: usize = 11;
-
-// The places of header words.
-pub const PAIRS: usize = 5;
-
-pub const SEEN: usize = 8;
-
-pub const MARK: usize = 9;
 
 // What an insertion leaves for the level above: nothing, or a pair and the node right of it.
 pub enum Inserted {
@@ -159,16 +155,6 @@ pub fn nodes_needed(a: &[u64], edge: Handle) -> usize
         node = parent;
         count += 1;
     }
-}
-
-// The larger of two words.
-fn larger(x: u64, y: u64) -> u64
-    ensures { λ r. ⌜ r ≡ max x y ⌝ }
-{
-    if x < y {
-        return y;
-    }
-    x
 }
 
 // A key is spent: the mark rises to it if that is larger or nothing was seen.

@@ -1,4 +1,5 @@
 // The checker's tests of single parts: a node's own words, the free chain, a key after another, the mark. They only read.
+use node::CAPACITY;
 use node::EDGES;
 use node::INTERNAL;
 use node::KEYS;
@@ -25,9 +26,6 @@ ghost use Rattle.model.specs.WellFormed.{UnusedZero, FreeZero, Linked, Zeros, l
 ghost use Rattle.model.proofs.Shape.{Own, Chain};
 ghost use Rattle.node.specs.Reading.{Within};
 ghost use Rattle.inspect.specs.Tests.{Decides, Above, Marked, reached};
-
-// The pairs that a node holds at most.
-pub const MOST: usize = 11;
 
 // A node that an edge leads to: the levels below it, the fewest pairs it may hold, its number, the node and the edge that lead there.
 pub struct Visit {
@@ -122,7 +120,7 @@ pub fn own(a: &[u64], count: usize, v: Visit) -> bool
     if n < v.fewest {
         return false;
     }
-    if n > MOST {
+    if n > CAPACITY {
         return false;
     }
     if !linked(a, v) {

@@ -1,16 +1,16 @@
 // Steps along the pairs, by parent words, and the leaf edge of a start bound (navigate.rs).
 use model::SearchBound;
 use node::Ascent;
+use node::HEIGHT;
 use node::NodeNo;
 use node::Place;
+use node::ROOT;
 use node::ascend;
 use node::edge;
 use node::keys;
 use node::len;
 use search::Handle;
 use search::find_lower_bound_index;
-use store::HEIGHT;
-use store::ROOT;
 ghost use mathlib.Core.Path.{_≡_};
 ghost use Rattle.model.specs.Tree.{top};
 ghost use Rattle.model.specs.Search.{sink};

@@ -1,6 +1,6 @@
 // Nodes of the arena: the two kinds of number, the places of a node's words, reading, and which pair of a full node rises.
 ghost use mathlib.Core.Path.{_≡_};
-ghost use Prim.Native.Nat.{_+_, _<_, _≤_};
+ghost use Prim.Native.Nat.{_+_, _<_, _≤_, max};
 ghost use Rattle.model.specs.Lists.{part};
 ghost use Rattle.model.specs.Layout.{base, most, nodeSize, stateWord, lengthWord, parentWord, placeWord, keysWord, valuesWord, edgesWord, wordAt};
 ghost use Rattle.model.specs.Insert as model;
@@ -13,6 +13,32 @@ pub const NONE: u64 = 4_294_967_295;
 pub const HEADER: usize = 10;
 
 pub const WORDS: usize = 38;
+
+// The places of the header's words.
+pub const FORMAT: usize = 0;
+
+pub const COUNT: usize = 1;
+
+pub const OFFSET: usize = 2;
+
+pub const ROOT: usize = 3;
+
+pub const HEIGHT: usize = 4;
+
+pub const PAIRS: usize = 5;
+
+pub const FIRST_FREE: usize = 6;
+
+pub const FREE_NODES: usize = 7;
+
+pub const SEEN: usize = 8;
+
+pub const MARK: usize = 9;
+
+// The pairs that a node holds at most, and at least if it is not the root.
+pub const CAPACITY: usize = 11;
+
+pub const MIN_LEN: usize = 5;
 
 // A node's state.
 pub const FREE: u64 = 0;
@@ -44,6 +70,16 @@ pub struct Place(pub usize);
 
 // A key and its value.
 pub struct Kv(pub u64, pub u64);
+
+// The larger of two words.
+pub fn larger(x: u64, y: u64) -> u64
+    ensures { λ r. ⌜ r ≡ max x y ⌝ }
+{
+    if x < y {
+        return y;
+    }
+    x
+}
 
 // The index of a node's first word.
 pub fn node_base(n: NodeNo) -> usize

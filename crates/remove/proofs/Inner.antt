@@ -35,7 +35,7 @@ use Rattle.navigate.specs.Places.{KvAt}
 use Rattle.navigate.proofs.Pairs.{Placed, search-placed}
 use Rattle.standing.specs.Standing.{rootOf}
 use Rattle.shrinking.proofs.Pairs.{pair-ready, pair-is, replace-long, replace-step}
-use Rattle.fix.specs.Repairs.{Rest, restOf, headWords, topOf, HoleIn, ClosedIn}
+use Rattle.standing.specs.Heads.{Rest, restOf, headWords, topOf, HoleIn, ClosedIn}
 use Rattle.fix.proofs.Holes.{closed-in}
 use Rattle.remove.specs.Removals.{grownTo, LeafKv, without, InnerKv, removed}
 use Rattle.remove.proofs.States.{hole-of, holds-of, removed-sound, removed-pairs}

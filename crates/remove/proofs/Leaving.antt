@@ -20,7 +20,8 @@ use Rattle.store.proofs.Chain.{head-put}
 use Rattle.leaf.specs.Pairs.{PairAt, removePair}
 use Rattle.search.specs.declared.Handle.{Handle}
 use Rattle.shrinking.proofs.Pairs.{pair-ready, pair-is, remove-long, remove-step}
-use Rattle.fix.specs.Repairs.{Rest, restOf, headWords, topOf, HoleIn, ClosedIn, Mending, Mends}
+use Rattle.standing.specs.Heads.{Rest, restOf, headWords, topOf, HoleIn, ClosedIn}
+use Rattle.fix.specs.Repairs.{Mending, Mends}
 use Rattle.standing.specs.Standing.{rootOf}
 use Rattle.remove.specs.Removals.{LeafKv, without}
 use Rattle.remove.proofs.States.{hole-of, holds-of, removed-sound, removed-pairs}

@@ -24,8 +24,8 @@ use Rattle.model.proofs.Held.{held-of, words-long}
 use Rattle.model.proofs.Removal.{Leaves, remove-leaves}
 use Rattle.standing.specs.Standing.{rootOf, Closed}
 use Rattle.standing.proofs.Scenes.{closed-of, enter, closed-words}
-use Rattle.fix.specs.Repairs.{Rest, restOf, headWords, topOf, HoleIn, ClosedIn}
-use Rattle.fix.proofs.Holes.{plug-root, plug-top}
+use Rattle.standing.specs.Heads.{Rest, restOf, headWords, topOf, HoleIn, ClosedIn}
+use Rattle.standing.proofs.Heads.{plug-root, plug-top}
 use Rattle.remove.specs.Removals.{grownTo}
 
 -- ---- words and states

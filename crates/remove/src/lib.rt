@@ -4,13 +4,14 @@ use internal::pop_internal_level;
 use leaf::replace_kv;
 use model::Answer;
 use navigate::next_back_leaf_edge;
+use node::HEIGHT;
 use node::Kv;
+use node::PAIRS;
 use node::Place;
 use node::key;
 use search::Handle;
 use search::SearchResult;
 use search::search_tree;
-use store::HEIGHT;
 ghost use mathlib.Core.Path.{_≡_};
 ghost use Prim.Native.Nat.{_≤_};
 ghost use Rattle.model.specs.State as model;
@@ -20,9 +21,6 @@ ghost use Rattle.model.specs.Promise.{Holds};
 ghost use Rattle.node.specs.Reading.{pairOf};
 ghost use Rattle.navigate.specs.Places.{In, KvAt};
 ghost use Rattle.remove.specs.Removals.{LeafKv, without, InnerKv, removed};
-
-// The place of the header word for the pairs.
-pub const PAIRS: usize = 5;
 
 // Takes a pair out of its leaf. The leaf and its ancestors are repaired, and an internal root left empty is taken off.
 pub fn remove_leaf_kv(a: &mut [u64], kv: Handle) -> Kv

@@ -1,26 +1,14 @@
 // Restore: an image's words over the arena's, but the mark never falls.
 use checker::well_formed;
 use model::Answer;
+use node::MARK;
+use node::SEEN;
+use node::larger;
 ghost use mathlib.Core.Path.{_≡_};
 ghost use Prim.Native.Nat.{_≤_, max};
 ghost use lib.ListN.{length, getD, set};
 ghost use Rattle.model.specs.Layout.{headerSize, seenWord, markWord};
 ghost use Rattle.model.specs.Promise.{Restore};
-
-// The places of header words.
-const SEEN: usize = 8;
-
-const MARK: usize = 9;
-
-// The larger of two words.
-fn larger(x: u64, y: u64) -> u64
-    ensures { λ r. ⌜ r ≡ max x y ⌝ }
-{
-    if x < y {
-        return y;
-    }
-    x
-}
 
 // Copies every word of as long a slice.
 fn copy_over(a: &mut [u64], image: &[u64])

@@ -1,12 +1,12 @@
 // Search in the tree: of a key, and of the edges of a range (search.rs).
 use model::Range;
 use model::SearchBound;
+use node::HEIGHT;
 use node::NodeNo;
 use node::Place;
+use node::ROOT;
 use node::edge;
 use node::keys;
-use store::HEIGHT;
-use store::ROOT;
 ghost use mathlib.Core.Path.{_≡_};
 ghost use Prim.Native.Nat.{_≤_};
 ghost use lib.ListN.{length, drop};

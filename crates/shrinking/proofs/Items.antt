@@ -9,11 +9,14 @@ use lib.ListN.{length, take, drop, getD, set, length-map, length-append}
 use lib.Seq.{take-at, drop-at, set-at}
 use Rattle.model.specs.Tree.{Pair, Item, fill, fillFirst, fillRest}
 use Rattle.model.specs.Layout.{NodeVal}
+use Rattle.model.specs.Words.{kind}
 use Rattle.model.specs.Insert.{pairOf, edgeOf}
 use Rattle.model.proofs.Plug.{fill-rest, length-fill}
 use Rattle.slices.specs.Words.{removeAt}
+use Rattle.slices.proofs.Laws.{map-take, map-drop}
 use Rattle.node.specs.Reading.{pairAt}
 use Rattle.store.specs.Links.{Body, bodyOf}
+use Rattle.standing.specs.Standing.{edgesIn, content}
 
 pub body-parts : (v : NodeVal) (b : Body) → bodyOf v ≡ b → (v .state ≡ b .state) × (v .pairs ≡ b .pairs) × (v .edges ≡ b .edges)
 body-parts v b e = (ap (λ (t : Body). t .state) e, ap (λ (t : Body). t .pairs) e, ap (λ (t : Body). t .edges) e)
@@ -87,3 +90,13 @@ pub cut-edges : (e : ℕ) (m : ℕ) (J : List (Item ℕ)) → m < length J → d
 cut-edges e m [] h = absurd (not-suc-le-zero h)
 cut-edges e zero (x ∷ J) h = refl
 cut-edges e (suc m) (x ∷ J) h = cut-edges e m J (omega arith)
+
+-- ---- the bodies of the two sides of a cut, one law for a leaf and an internal node
+
+pub low-content : (m k e : ℕ) (s : List (Item ℕ)) → record { state = kind k; pairs = take m (map pairIn s); edges = take (suc m) (edgesIn k (e ∷ map edgeIn s)) } ≡ content k e (take m s)
+low-content m zero e s = rw (map-take pairIn m s) refl
+low-content m (suc k) e s = rw (map-take pairIn m s, map-take edgeIn m s) refl
+
+pub high-content : (m k e : ℕ) (s : List (Item ℕ)) → m < length s → record { state = kind k; pairs = drop (suc m) (map pairIn s); edges = drop (suc m) (edgesIn k (e ∷ map edgeIn s)) } ≡ content k (edgeOf e (drop m s)) (tail (drop m s))
+high-content m zero e s z = rw (tail-drop m s, map-drop pairIn (suc m) s) refl
+high-content m (suc k) e s z = rw (cut-edges e m s z) (rw (tail-drop m s, map-drop pairIn (suc m) s) refl)

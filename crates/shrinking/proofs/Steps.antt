@@ -36,7 +36,7 @@ use Rattle.standing.proofs.Contents.{content-fill}
 use Rattle.shrinking.proofs.Three.{Siblings}
 use Rattle.shrinking.proofs.Moves.{merge-kept, merge-right, merge-parent, merge-left, move-kept, move-parent, move-left, move-right}
 use Rattle.shrinking.proofs.Pop.{pop-kept, pop-free, pop-root}
-use Rattle.shrinking.proofs.Items.{body-parts, pairIn, edgeIn, column-long, gone, there, swapped, alike, num-edge, between, map-tail, tail-drop, cut-edges}
+use Rattle.shrinking.proofs.Items.{body-parts, pairIn, edgeIn, column-long, gone, there, swapped, alike, num-edge, between, map-tail, low-content, high-content}
 
 pub root-in : {h : ℕ} (c : Ctx h) (k : ℕ) → 1 ≤ hasCtx (rootOf c k) c + one k (rootOf c k)
 root-in top k = omega (arith, one-self k)
@@ -55,10 +55,10 @@ module _ (ns : List NodeVal) (L : Links ns) (n e : ℕ) (r : List (Item ℕ)) (o
   edges-lead : All (λ (c : ℕ). c < length ns) (nth ns n .edges)
   edges-lead = all-of (λ c. c < length ns) (nth ns n .edges) (λ j l. L n j l .within)
 
-  content-edges : (h : ℕ) → bodyOf (nth ns n) ≡ content (suc h) e r → length (nth ns n .edges) ≡ length (nth ns n .pairs) + 1
+  pub content-edges : (h : ℕ) → bodyOf (nth ns n) ≡ content (suc h) e r → length (nth ns n .edges) ≡ length (nth ns n .pairs) + 1
   content-edges h b = ap length (body-parts (nth ns n) _ b .2) ∙ ap suc (length-map r edgeIn) ∙ omega (arith, content-pairs (suc h) b)
 
-  branching : (h : ℕ) → bodyOf (nth ns n) ≡ content (suc h) e r → Branches ns n
+  pub branching : (h : ℕ) → bodyOf (nth ns n) ≡ content (suc h) e r → Branches ns n
   branching h b = record { state-is = body-parts (nth ns n) _ b .0; edges-are = content-edges h b; lead = edges-lead }
 
   shaped : (h : ℕ) → bodyOf (nth ns n) ≡ content h e r → Shaped ns n
@@ -252,20 +252,12 @@ module _ {h : ℕ} (c : Ctx (suc (suc h))) (n : ℕ) (l : List (Item (Tree (suc 
     moved-low : bodyOf (nth after-move (a .no)) ≡ content h (rootNo h (a .first)) (numbered h (take m J))
     moved-low =
         move-left ns (T .links) n i (a .no) (b .no) siblings m
-        ∙ rw (low-is .0, joined-pairs, joined-edges, add-one, map-take _ m J) (go h (rootNo h (a .first)) (numbered h J))
-      where
-        go : (k e : ℕ) (s : List (Item ℕ)) → record { state = kind k; pairs = take m (map pairIn s); edges = take (suc m) (edgesIn k (e ∷ map edgeIn s)) } ≡ content k e (take m s)
-        go zero e s = rw (map-take pairIn m s) refl
-        go (suc k) e s = rw (map-take pairIn m s, map-take edgeIn m s) refl
+        ∙ rw (low-is .0, joined-pairs, joined-edges, add-one, map-take _ m J) (low-content m h (rootNo h (a .first)) (numbered h J))
 
     moved-high : bodyOf (nth after-move (b .no)) ≡ content h (rootNo h (edgeOf (a .first) (drop m J))) (numbered h (tail (drop m J)))
     moved-high =
         move-right ns (T .links) n i (a .no) (b .no) siblings m
-        ∙ rw (high-is .0, joined-pairs, joined-edges, add-one, num-edge (rootNo h) (a .first) (drop m J), map-tail _ (drop m J), map-drop _ m J) (go h (rootNo h (a .first)) (numbered h J) (rw (length-map J) o))
-      where
-        go : (k e : ℕ) (s : List (Item ℕ)) → m < length s → record { state = kind k; pairs = drop (suc m) (map pairIn s); edges = drop (suc m) (edgesIn k (e ∷ map edgeIn s)) } ≡ content k (edgeOf e (drop m s)) (tail (drop m s))
-        go zero e s z = rw (tail-drop m s, map-drop pairIn (suc m) s) refl
-        go (suc k) e s z = rw (cut-edges e m s z) (rw (tail-drop m s, map-drop pairIn (suc m) s) refl)
+        ∙ rw (high-is .0, joined-pairs, joined-edges, add-one, num-edge (rootNo h) (a .first) (drop m J), map-tail _ (drop m J), map-drop _ m J) (high-content m h (rootNo h (a .first)) (numbered h J) (rw (length-map J) o))
 
     first-stands : Stands after-move h (a .first)
     first-stands = stands-kept ns after-move _ _ Kv h (a .first) (λ q. omega (arith, T .once q)) (T .low .1)

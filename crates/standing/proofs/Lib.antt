@@ -4,3 +4,4 @@ pub mod Changes
 pub mod Frames
 pub mod Contents
 pub mod Scenes
+pub mod Heads

@@ -1,5 +1,7 @@
 // Nodes taken and returned, and the links from children to their parent.
+use node::FIRST_FREE;
 use node::FREE;
+use node::FREE_NODES;
 use node::NONE;
 use node::NodeNo;
 use node::PARENT;
@@ -16,15 +18,6 @@ ghost use lib.ListN.{length};
 ghost use Rattle.model.specs.Layout.{none, NodeVal, Arena};
 ghost use Rattle.node.specs.Reading.{Within, Has};
 ghost use Rattle.store.specs.Links.{TakeReady, ReturnReady, LinkReady, firstFree, takeHead, takeNode, returnHead, returnNode, link, relinkFrom};
-
-// The places of header words.
-pub const ROOT: usize = 3;
-
-pub const HEIGHT: usize = 4;
-
-pub const FIRST_FREE: usize = 6;
-
-pub const FREE_NODES: usize = 7;
 
 // Takes the first free node, as an empty node of a state.
 pub fn take_node(a: &mut [u64], state: u64) -> NodeNo

@@ -6,7 +6,7 @@ use native.Mathlib.Omega.{arith}
 use lib.ListN.{length}
 use Rattle.model.specs.Insert.{left, right}
 use Rattle.model.specs.Nodes.{Grown}
-use Rattle.fix.specs.Repairs.{Rest}
+use Rattle.standing.specs.Heads.{Rest}
 use Rattle.border.specs.Borders.{Topped, Descending, down}
 use Rattle.border.proofs.Tops.{rooted-long}
 use Rattle.border.proofs.Sides.{down-starts, descends, down-step, down-ends}

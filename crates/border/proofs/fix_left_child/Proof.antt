@@ -6,7 +6,7 @@ use native.Mathlib.Omega.{arith}
 use borrow.Author.Needs.{needs}
 use Rattle.model.specs.Insert.{left, right}
 use Rattle.model.specs.Nodes.{Grown}
-use Rattle.fix.specs.Repairs.{Rest}
+use Rattle.standing.specs.Heads.{Rest}
 use Rattle.fix.proofs.Balances.{sides-known, merges-is, merge-in}
 use Rattle.border.specs.Borders.{Descending}
 use Rattle.border.proofs.Sides.{Stocking, stock-merged, child-word, stock-stays, stock-in, stock-moved, left-within, left-stocking}

@@ -7,7 +7,7 @@ use lib.ListN.{length}
 use borrow.Author.Needs.{needs}
 use Rattle.model.specs.Layout.{header, heightWord}
 use Rattle.model.specs.Nodes.{Grown}
-use Rattle.fix.specs.Repairs.{Rest}
+use Rattle.standing.specs.Heads.{Rest}
 use Rattle.border.specs.Borders.{Rooted, RootedIn, Topped, tops}
 use Rattle.border.proofs.Tops.{root-known, height-word, rooted-long, stays, some-leaf, some-pairs, goes-in, goes}
 use Rattle.border.proofs.fix_top.Statement.{statement}

@@ -9,7 +9,8 @@ use Rattle.model.specs.Layout.{header, countWord, freeWord}
 use Rattle.model.specs.Nodes.{Grown}
 use Rattle.fix.specs.declared.Fixed.{Fixed}
 use Rattle.fix.specs.declared.Fixed.the-variants.{Merged, Whole, EmptyRoot}
-use Rattle.fix.specs.Repairs.{Rest, Mending, Mends, Fixing}
+use Rattle.standing.specs.Heads.{Rest}
+use Rattle.fix.specs.Repairs.{Mending, Mends, Fixing}
 use Rattle.fix.proofs.Balances.{mending-used}
 use Rattle.fix.proofs.fix_node_and_affected_ancestors.Statement.{statement}
 use Rattle.fix.proofs.fix_node_and_affected_ancestors.Tie as tie

@@ -9,7 +9,8 @@ use Rattle.model.specs.Layout.{least}
 use Rattle.model.specs.Nodes.{Grown}
 use Rattle.model.specs.Insert.{left, right}
 use Rattle.model.specs.Remove.{canMerge}
-use Rattle.fix.specs.Repairs.{Rest, Mending}
+use Rattle.standing.specs.Heads.{Rest}
+use Rattle.fix.specs.Repairs.{Mending}
 use Rattle.fix.proofs.Choices.{mending-within, mending-long}
 use Rattle.fix.proofs.Balances.{Pairing, sides-known, merges-is, merge-in, merge-held, lend-in, lend-held, enough, at-root, root-empty, left-pairing, right-pairing}
 use Rattle.fix.proofs.fix_node_through_parent.Statement.{statement}

@@ -11,7 +11,8 @@ use Rattle.model.specs.State.{State}
 use Rattle.model.specs.Promise.{Holds}
 use Rattle.node.specs.Reading.{pairOf}
 use Rattle.navigate.proofs.Steps.{header-in}
-use Rattle.growing.specs.Climbs.{Rest, restOf, Climbing}
+use Rattle.standing.specs.Heads.{Rest, restOf}
+use Rattle.growing.specs.Climbs.{Climbing}
 use Rattle.growing.proofs.Climbs.{begin, climb-within, Above, above}
 use borrow.Author.Needs.{needs}
 use Rattle.insert.specs.declared.Inserted.{Inserted}

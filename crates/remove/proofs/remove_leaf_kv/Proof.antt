@@ -5,7 +5,8 @@ use native.Mathlib.Omega.{arith}
 use borrow.Author.Needs.{needs}
 use Rattle.model.specs.State.{State}
 use Rattle.model.specs.Promise.{Holds}
-use Rattle.fix.specs.Repairs.{restOf, Emptied}
+use Rattle.standing.specs.Heads.{restOf}
+use Rattle.fix.specs.Repairs.{Emptied}
 use Rattle.remove.specs.Removals.{LeafKv, without}
 use Rattle.remove.proofs.States.{same-long}
 use Rattle.fix.proofs.Emptying.{repaired, unrepaired, emptied-long, emptied-stays, emptied-in, emptied-popped}
