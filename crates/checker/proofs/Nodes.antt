@@ -10,7 +10,7 @@ use Rattle.model.specs.Lists.{joinTo, mixTo}
 use Rattle.model.specs.Layout.{least}
 use Rattle.model.specs.WellFormed.{Reached, lengthAt, edgeAt, keyAt, reach, keysIn, rootFewest}
 use Rattle.model.proofs.Lists.{join-more}
-use Rattle.model.proofs.Shape.{Own, Shape}
+use Rattle.model.specs.Shape.{Own, Shape}
 use Rattle.checker.specs.declared.Walk.{Walk}
 use Rattle.checker.specs.declared.Checked.{Checked}
 use Rattle.checker.specs.declared.Checked.the-variants.{Bad, Good}

@@ -7,7 +7,7 @@ use lib.ListN.{length}
 use Rattle.model.specs.Lists.{joinTo, mixTo}
 use Rattle.model.specs.Layout.{least}
 use Rattle.model.specs.WellFormed.{Reached, edgeAt, keyAt, reach, keysIn}
-use Rattle.model.proofs.Shape.{Shape}
+use Rattle.model.specs.Shape.{Shape}
 use Rattle.inspect.specs.declared.Last.{Last}
 use Rattle.inspect.specs.declared.Last.the-variants.{After}
 use Rattle.inspect.specs.Tests.{Above}

@@ -6,7 +6,7 @@ use mathlib.Core.List.{List}
 use lib.ListN.{length}
 use Rattle.model.specs.Layout.{none, Sized, headerSize, formatNumber, largestHeight, header, formatWord, countWord, offsetWord, rootWord, heightWord, pairsWord, firstFreeWord, freeWord, seenWord, markWord}
 use Rattle.model.specs.WellFormed.{rootFewest}
-use Rattle.model.proofs.Shape.{Chain}
+use Rattle.model.specs.Shape.{Chain}
 use Rattle.inspect.specs.declared.Last.the-variants.{Start}
 use Rattle.inspect.specs.Tests.{Marked}
 use Rattle.checker.specs.declared.Walk.{Walk}

@@ -11,7 +11,7 @@ use lib.ListN.{getD}
 use Rattle.model.specs.Layout.{none, internal, base, wordAt, parentWord}
 use Rattle.model.specs.Words.{kind}
 use Rattle.model.specs.WellFormed.{Zeros, edgesUsed}
-use Rattle.model.proofs.Shape.{OwnFree, Chain}
+use Rattle.model.specs.Shape.{OwnFree, Chain}
 
 -- the words from b + f up to b + t are 0
 abbrev pub Clear : List ℕ → ℕ → ℕ → ℕ → Type 0

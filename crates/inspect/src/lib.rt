@@ -23,7 +23,7 @@ ghost use lib.ListN.{length};
 ghost use Rattle.model.specs.Layout.{Sized, most, nodeSize};
 ghost use Rattle.model.specs.Words.{kind};
 ghost use Rattle.model.specs.WellFormed.{UnusedZero, FreeZero, Linked, Zeros, lengthAt, edgesUsed};
-ghost use Rattle.model.proofs.Shape.{Own, Chain};
+ghost use Rattle.model.specs.Shape.{Own, Chain};
 ghost use Rattle.node.specs.Reading.{Within};
 ghost use Rattle.inspect.specs.Tests.{Decides, Above, Marked, reached};
 

@@ -5,7 +5,7 @@ use Prim.Native.Nat.{ℕ, _+_, _-_, _≤_, _<_}
 use native.Mathlib.Omega.{arith}
 use mathlib.Core.Path.{_≡_, ap}
 use Rattle.model.specs.WellFormed.{Reached}
-use Rattle.model.proofs.Shape.{Own}
+use Rattle.model.specs.Shape.{Own}
 use Rattle.inspect.specs.Tests.{reached}
 use Rattle.inspect.proofs.Decisions.{decided, refuted}
 use Rattle.checker.specs.declared.Checked.the-variants.{Good}

@@ -4,7 +4,7 @@ use native.Mathlib.Omega.{arith}
 use mathlib.Core.Path.{_≡_}
 use lib.Dec.{eqb}
 use Rattle.model.specs.Layout.{none}
-use Rattle.model.proofs.Shape.{Chain}
+use Rattle.model.specs.Shape.{Chain}
 use Rattle.inspect.proofs.Decisions.{decided, refuted, decides-as, equal}
 use Rattle.inspect.proofs.Words.{chain-out, chain-in, chain-done, done-chain}
 use borrow.Author.Needs.{needs}
