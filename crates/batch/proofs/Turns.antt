@@ -16,9 +16,8 @@ use Rattle.model.specs.declared.Answer.the-variants.{Done, BadOrder}
 use Rattle.model.specs.Answer.{Numbers, numbersOf}
 use Rattle.model.specs.State.{State, Reply, Order, order, put, get, delete, triples, afterAll, answers}
 use Rattle.model.specs.Words.{wordsOf}
-use Rattle.model.specs.Promise.{Holds, Fits}
+use Rattle.model.specs.Promise.{Holds, Fits, Does}
 use Rattle.model.proofs.Calls.{order-sound}
-use Rattle.insert.specs.Inserts.{Does}
 use Rattle.listing.proofs.Sofar.{set-two}
 use Rattle.batch.specs.Orders.{orderOf, Ran}
 

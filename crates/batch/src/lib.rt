@@ -7,9 +7,8 @@ ghost use Prim.Native.Nat.{_+_, _*_, _<_, _≤_};
 ghost use lib.ListN.{length, getD, set};
 ghost use Rattle.model.specs.State as model;
 ghost use Rattle.model.specs.WellFormed.{WellFormed};
-ghost use Rattle.model.specs.Promise.{Holds, Call, Batch};
+ghost use Rattle.model.specs.Promise.{Holds, Does, Call, Batch};
 ghost use Rattle.model.specs.Answer.{numbersOf};
-ghost use Rattle.insert.specs.Inserts.{Does};
 ghost use Rattle.batch.specs.Orders.{orderOf, Ran};
 
 const PUT: u64 = 1;

@@ -18,7 +18,7 @@ use Rattle.model.specs.Mark.{Mark, unseen, seen, spend, seenOf, markOf}
 use Rattle.model.specs.State.{State, Reply, putAt, put}
 use Rattle.model.specs.Words.{rootNo, headerOf, nodesIn, wordsOf}
 use Rattle.model.specs.WellFormed.{WellFormed}
-use Rattle.model.specs.Promise.{Holds, Called}
+use Rattle.model.specs.Promise.{Holds, Does}
 use Rattle.model.proofs.Bounds.{few}
 use Rattle.model.proofs.Decode.{stateOf}
 use Rattle.model.proofs.Forward.{forward}
@@ -41,7 +41,7 @@ use Rattle.standing.proofs.Scenes.{closed-of, enter, close, closed-words}
 use Rattle.standing.specs.Heads.{restOf, headWords, ClosedIn}
 use Rattle.shrinking.proofs.Pairs.{pair-ready, pair-is, replace-long, replace-step}
 use Rattle.standing.proofs.Heads.{plug-root, plug-top}
-use Rattle.insert.specs.Inserts.{Placed, PutIn, spent, Does}
+use Rattle.insert.specs.Inserts.{Placed, PutIn, spent}
 
 -- ---- where the search ends
 
@@ -221,11 +221,3 @@ module _ {w : List ℕ} {s : State} (o : Holds w s) (k v : ℕ) {w₁ : List ℕ
         left = closed-words (d .state) (put-sound k v s (o .sound)) a (rw (q .size-is, q .pairs-are, q .mark-is, mark-spent k (s .mark), seen-spent k (s .mark)) refl) (q .held .many ∙ sym (q .size-is)) (q .held .stand);
         said = sym (q .said);
       }
-
--- refused: nothing has changed
-pub refused : {w : List ℕ} {s : State} → Holds w s → (d : Reply) (w′ : List ℕ) (r : Answer) → r ≡ NoRoom → (d ≡ record { answer = NoRoom; state = s }) × (w′ ≡ w) → Does d w′ r
-refused o d w′ r e q = record { left = q .1 ∙ (o .words ∙ ap (λ (x : Reply). wordsOf (x .state)) (sym (q .0))); said = e ∙ ap (λ (x : Reply). x .answer) (sym (q .0)) }
-
--- behind a check: what a call does of every state that the words hold, it does of the one that they are checked to hold
-pub called : (call : State → Reply) {w w′ : List ℕ} {r : Answer} → WellFormed w → ((s : State) → Holds w s → Does (call s) w′ r) → Called call w w′ r
-called call {w} f does = let o = forward w f in let d = does (stateOf w) o in record { state = stateOf w; holds = o; left = d .left; said = d .said }

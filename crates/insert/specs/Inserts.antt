@@ -89,8 +89,3 @@ PutIn k s d w w′ BadImage = ⊥
 -- the header with a key spent
 abbrev pub spent : ℕ → List ℕ → List ℕ
 spent k h = set (set h markWord (max (header h markWord) k)) seenWord 1
-
--- what a call leaves and answers
-pub record Does (d : Reply) (w : List ℕ) (r : Answer) : Type 0 where
-  pub left : w ≡ wordsOf (d .state)
-  pub said : r ≡ d .answer

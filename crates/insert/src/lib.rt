@@ -30,12 +30,12 @@ ghost use Rattle.model.specs.Nodes.{Grown};
 ghost use Rattle.model.specs.Insert.{rise, needed};
 ghost use Rattle.model.specs.State as model;
 ghost use Rattle.model.specs.WellFormed.{WellFormed};
-ghost use Rattle.model.specs.Promise.{Holds};
+ghost use Rattle.model.specs.Promise.{Holds, Does};
 ghost use Rattle.node.specs.Reading.{pairOf};
 ghost use Rattle.navigate.specs.Places.{In, EdgeAt};
 ghost use Rattle.standing.specs.Heads.{Rest, restOf, ClosedIn};
 ghost use Rattle.growing.specs.Climbs.{Gap, Climbing};
-ghost use Rattle.insert.specs.Inserts.{targetOf, Outcome, InnerGap, ClimbIn, AtRoot, Roomy, PutIn, spent, Does};
+ghost use Rattle.insert.specs.Inserts.{targetOf, Outcome, InnerGap, ClimbIn, AtRoot, Roomy, PutIn, spent};
 
 // What an insertion leaves for the level above: nothing, or a pair and the node right of it.
 pub enum Inserted {

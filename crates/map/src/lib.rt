@@ -7,12 +7,12 @@ use search::search_tree;
 ghost use mathlib.Core.Path.{_≡_};
 ghost use Rattle.model.specs.State as model;
 ghost use Rattle.model.specs.WellFormed.{WellFormed};
-ghost use Rattle.model.specs.Promise.{Holds, Call};
+ghost use Rattle.model.specs.Promise.{Holds, Does, Call};
 
 // The value of a key, behind a checked arena.
 pub fn look(a: &[u64], key: u64) -> Answer
     requires { ⌜ WellFormed (now a) ⌝ }
-    ensures { λ r. ⌜ ((s : model.State) → Holds (now (a .entry)) s → model.get key s ≡ record { answer = r; state = s }) ⌝ }
+    ensures { λ r. ⌜ ((s : model.State) → Holds (now (a .entry)) s → Does (model.get key s) (now (a .entry)) r) ⌝ }
 {
     let SearchResult::Found(kv) = search_tree(a, key) else {
         return Answer::Absent;

@@ -45,6 +45,11 @@ pub record Holds (w : List ℕ) (s : State) : Type 0 where
   pub sound : Sound s
   pub words : w ≡ wordsOf s
 
+-- what a call leaves and answers
+pub record Does (d : Reply) (w : List ℕ) (r : Answer) : Type 0 where
+  pub left : w ≡ wordsOf (d .state)
+  pub said : r ≡ d .answer
+
 -- In what follows w is an arena's words before the call and w′ after it, r the answer.
 
 -- ---- a call on an arena: check, get, put, delete, a single order

@@ -15,9 +15,8 @@ use search::search_tree;
 ghost use mathlib.Core.Path.{_≡_};
 ghost use Prim.Native.Nat.{_≤_};
 ghost use Rattle.model.specs.State as model;
-ghost use Rattle.model.specs.Words.{wordsOf};
 ghost use Rattle.model.specs.WellFormed.{WellFormed};
-ghost use Rattle.model.specs.Promise.{Holds};
+ghost use Rattle.model.specs.Promise.{Holds, Does};
 ghost use Rattle.node.specs.Reading.{pairOf};
 ghost use Rattle.navigate.specs.Places.{In, KvAt};
 ghost use Rattle.remove.specs.Removals.{LeafKv, without, InnerKv, removed};
@@ -86,7 +85,7 @@ pub fn remove_kv_tracking(a: &mut [u64], kv: Handle) -> Kv
 // Takes the pair of a key out, if it is there.
 pub fn delete(a: &mut [u64], key: u64) -> Answer
     requires { ⌜ WellFormed (now a) ⌝ }
-    ensures { λ r. ⌜ ((s : model.State) → Holds (now (a .entry)) s → (now (a .exit) ≡ wordsOf ((model.delete key s) .state)) × (r ≡ (model.delete key s) .answer)) ⌝ }
+    ensures { λ r. ⌜ ((s : model.State) → Holds (now (a .entry)) s → Does (model.delete key s) (now (a .exit)) r) ⌝ }
 {
     let SearchResult::Found(kv) = search_tree(a, key) else {
         return Answer::Absent;

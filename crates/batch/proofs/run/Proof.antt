@@ -7,7 +7,7 @@ use Rattle.model.specs.declared.Answer.{Answer}
 use Rattle.model.specs.State.{State, Reply}
 use Rattle.model.specs.Words.{wordsOf}
 use Rattle.model.specs.Promise.{Holds}
-use Rattle.insert.specs.Inserts.{Does}
+use Rattle.model.proofs.Ends.{stays, does-as}
 use Rattle.batch.proofs.Turns.{order-put, order-get, order-delete, order-bad}
 use lib.ListN.{length, getD, set, length-set}
 use borrow.Author.Needs.{needs}
@@ -21,7 +21,7 @@ same-length : tie.Need-same-length
 same-length c = search needs
 
 returns : tie.Need-returns
-returns c = λ s o. let x = c .before .before .before .before .before .before .args in subst (λ (d : Reply). Does d (c .before .before .put .last .0) (c .before .before .put .result)) (sym (order-put (x .code) (x .key) (x .val) s (c .before .before .before .before .if1 .taken))) (c .before .before .put .ensures s o)
+returns c = λ s o. let x = c .before .before .before .before .before .before .args in does-as (order-put (x .code) (x .key) (x .val) s (c .before .before .before .before .if1 .taken)) (c .before .before .put .ensures s o)
 
 look-requires : tie.Need-look-requires
 look-requires c κs = search needs
@@ -30,7 +30,7 @@ same-length-2 : tie.Need-same-length-2
 same-length-2 c = search needs
 
 returns-2 : tie.Need-returns-2
-returns-2 c = λ s o. let x = c .before .before .before .before .before .args in let e = order-get (x .code) (x .key) (x .val) s (c .before .before .before .if1 .left) (c .before .before .if2 .taken) ∙ c .look .ensures s o in record { left = o .words ∙ ap (λ (d : Reply). wordsOf (d .state)) (sym e); said = ap (λ (d : Reply). d .answer) (sym e) }
+returns-2 c = λ s o. let x = c .before .before .before .before .before .args in does-as (order-get (x .code) (x .key) (x .val) s (c .before .before .before .if1 .left) (c .before .before .if2 .taken)) (c .look .ensures s o)
 
 delete-requires : tie.Need-delete-requires
 delete-requires c κs = search needs
@@ -39,10 +39,10 @@ same-length-3 : tie.Need-same-length-3
 same-length-3 c = search needs
 
 returns-3 : tie.Need-returns-3
-returns-3 c = λ s o. let x = c .before .before .before .before .before .before .before .before .args in let e = order-delete (x .code) (x .key) (x .val) s (c .before .before .before .before .before .before .if1 .left) (c .before .before .before .before .before .if2 .left) (c .before .before .before .before .if3 .taken) in let d = c .before .before .delete .ensures s o in record { left = d .0 ∙ ap (λ (d : Reply). wordsOf (d .state)) (sym e); said = d .1 ∙ ap (λ (d : Reply). d .answer) (sym e) }
+returns-3 c = λ s o. let x = c .before .before .before .before .before .before .before .before .args in does-as (order-delete (x .code) (x .key) (x .val) s (c .before .before .before .before .before .before .if1 .left) (c .before .before .before .before .before .if2 .left) (c .before .before .before .before .if3 .taken)) (c .before .before .delete .ensures s o)
 
 returns-4 : tie.Need-returns-4
-returns-4 c = λ s o. let x = c .before .before .before .before .args in let e = order-bad (x .code) (x .key) (x .val) s (c .before .before .if1 .left) (c .before .if2 .left) (c .if3 .left) in record { left = o .words ∙ ap (λ (d : Reply). wordsOf (d .state)) (sym e); said = ap (λ (d : Reply). d .answer) (sym e) }
+returns-4 c = λ s o. let x = c .before .before .before .before .args in stays o (order-bad (x .code) (x .key) (x .val) s (c .before .before .if1 .left) (c .before .if2 .left) (c .if3 .left))
 
 pub run-spec : {M : Type 1} → statement M
 run-spec =

@@ -10,11 +10,12 @@ use types.Run.{miss}
 use Rattle.model.specs.declared.Answer.the-variants.{Done, NoRoom}
 use Rattle.model.specs.Layout.{NodeVal, Arena}
 use Rattle.model.specs.State.{State, put}
-use Rattle.model.specs.Promise.{Holds}
+use Rattle.model.specs.Promise.{Holds, Does}
 use Rattle.model.proofs.Forward.{forward}
+use Rattle.model.proofs.Ends.{stays}
 use borrow.Author.Needs.{needs}
-use Rattle.insert.specs.Inserts.{Does, spent}
-use Rattle.insert.proofs.Ends.{if-refused, if-new, if-neither, Counts, count-one, count-none, pairs-few, ended, refused}
+use Rattle.insert.specs.Inserts.{spent}
+use Rattle.insert.proofs.Ends.{if-refused, if-new, if-neither, Counts, count-one, count-none, pairs-few, ended}
 use Rattle.insert.proofs.put.Statement.{statement}
 use Rattle.insert.proofs.put.Tie as tie
 
@@ -57,7 +58,9 @@ returns : tie.Need-returns
 returns c =
     λ s o.
     let p = c .before .before .before .before .put-pair in
-    refused o _ (p .last .0) (p .result) (c .enum-told .given .1) (if-refused _ s _ _ (p .last .0) (p .result) (c .enum-told .given .1) (p .ensures s o))
+    let q = if-refused _ s _ _ (p .last .0) (p .result) (c .enum-told .given .1) (p .ensures s o) in
+    let d = stays o (q .0) in
+    record { left = q .1 ∙ d .left; said = c .enum-told .given .1 ∙ d .said }
 
 enum-told-2 : tie.Need-enum-told-2
 enum-told-2 c = search needs

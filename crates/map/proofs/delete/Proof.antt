@@ -2,7 +2,6 @@
 -- Assumes nothing.
 use borrow.Author.Needs.{needs}
 use Rattle.model.specs.WellFormed.{WellFormed}
-use Rattle.model.specs.State.{delete}
 use Rattle.model.proofs.Ends.{call-refused, call-done}
 use Rattle.inspect.proofs.Decisions.{decided, refuted}
 use Rattle.map.proofs.delete.Statement.{statement}
@@ -27,7 +26,7 @@ same-length-2 : tie.Need-same-length-2
 same-length-2 c = search needs
 
 returns-2 : tie.Need-returns-2
-returns-2 c = call-done (delete (c .before .before .before .before .before .before .before .before .args .key)) (formed (c .before .before .before .before)) (c .before .before .delete .ensures)
+returns-2 c = call-done _ (formed (c .before .before .before .before)) (c .before .before .delete .ensures)
 
 pub delete-spec : {M : Type 1} → statement M
 delete-spec =

@@ -1,10 +1,7 @@
 -- `map::get` meets its contract.
 -- Assumes nothing.
-use mathlib.Core.Path.{sym, ap, _∙_}
 use borrow.Author.Needs.{needs}
 use Rattle.model.specs.WellFormed.{WellFormed}
-use Rattle.model.specs.State.{Reply, get}
-use Rattle.model.specs.Words.{wordsOf}
 use Rattle.model.proofs.Ends.{call-refused, call-done}
 use Rattle.inspect.proofs.Decisions.{decided, refuted}
 use Rattle.map.proofs.get.Statement.{statement}
@@ -23,11 +20,7 @@ look-requires : tie.Need-look-requires
 look-requires c κs = formed c
 
 returns-2 : tie.Need-returns-2
-returns-2 c =
-    call-done (get (c .before .before .before .before .args .key)) (formed (c .before))
-    (λ s o.
-    let e = sym (c .look .ensures s o) in
-    (o .words ∙ ap (λ (d : Reply). wordsOf (d .state)) e, ap (λ (d : Reply). d .answer) e))
+returns-2 c = call-done _ (formed (c .before)) (c .look .ensures)
 
 pub get-spec : {M : Type 1} → statement M
 get-spec =

@@ -8,6 +8,7 @@ use Rattle.model.specs.Search as model
 use Rattle.model.specs.State.{State, Reply}
 use Rattle.model.specs.Promise.{Holds}
 use Rattle.model.proofs.Forward.{forward}
+use Rattle.model.proofs.Ends.{stays, does-as}
 use Rattle.navigate.proofs.Pairs.{Placed, search-placed, kv-within, kv-val}
 use Rattle.map.proofs.Gets.{absent, present}
 use Rattle.map.proofs.look.Statement.{statement}
@@ -27,13 +28,13 @@ enum-told : tie.Need-enum-told
 enum-told c = search needs
 
 returns : tie.Need-returns
-returns c = λ s o. absent s (model.search (c .before .before .before .before .args .key) (s .whole)) _ (sym (c .enum-told .given .1) ∙ c .before .before .search-tree .ensures s o)
+returns c = λ s o. stays o (absent s (model.search (c .before .before .before .before .args .key) (s .whole)) _ (sym (c .enum-told .given .1) ∙ c .before .before .search-tree .ensures s o))
 
 val-requires : tie.Need-val-requires
 val-requires c κs = let x = c .before .before .before .before .before .before .before in let o = forward (x .args .a .now) (x .pre) in kv-within _ ((placed (c .before .before .before) o) .kv) o
 
 returns-2 : tie.Need-returns-2
-returns-2 c = λ s o. let p = placed (c .before .before .before .before) o in present p ∙ ap (λ (v : Answer). record { answer = v; state = s }) (ap Value (sym (c .val .ensures ∙ kv-val _ (p .kv) o)))
+returns-2 c = λ s o. let p = placed (c .before .before .before .before) o in does-as (present p) (record { left = o .words; said = ap Value (c .val .ensures ∙ kv-val _ (p .kv) o) })
 
 pub look-spec : {M : Type 1} → statement M
 look-spec =

@@ -1,12 +1,9 @@
 -- `map::put` meets its contract.
 -- Assumes nothing.
-use mathlib.Core.Logic.{inl, inr}
-use mathlib.Core.Path.{refl}
 use borrow.Author.Needs.{needs}
 use Rattle.model.specs.WellFormed.{WellFormed}
-use Rattle.model.proofs.Ends.{call-refused}
+use Rattle.model.proofs.Ends.{call-refused, call-done}
 use Rattle.inspect.proofs.Decisions.{decided, refuted}
-use Rattle.insert.proofs.Ends.{called}
 use Rattle.map.proofs.put.Statement.{statement}
 use Rattle.map.proofs.put.Tie as tie
 
@@ -29,7 +26,7 @@ same-length-2 : tie.Need-same-length-2
 same-length-2 c = search needs
 
 returns-2 : tie.Need-returns-2
-returns-2 c = let f = formed (c .before .before .before .before) in inr ((λ b. b f), called _ f (c .before .before .put .ensures))
+returns-2 c = call-done _ (formed (c .before .before .before .before)) (c .before .before .put .ensures)
 
 pub put-spec : {M : Type 1} → statement M
 put-spec =

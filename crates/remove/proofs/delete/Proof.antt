@@ -5,11 +5,11 @@ use native.Mathlib.Omega.{arith}
 use borrow.Author.Needs.{needs}
 use Rattle.model.specs.declared.Answer.the-variants.{Value}
 use Rattle.model.specs.Tree.{Pair}
-use Rattle.model.specs.State.{State, Reply}
+use Rattle.model.specs.State.{State}
 use Rattle.model.specs.Search as model
-use Rattle.model.specs.Words.{wordsOf}
 use Rattle.model.specs.Promise.{Holds}
 use Rattle.model.proofs.Forward.{forward}
+use Rattle.model.proofs.Ends.{stays, does-as}
 use Rattle.navigate.proofs.Pairs.{Placed, search-placed}
 use Rattle.remove.proofs.Inner.{deleted-absent, deleted-there}
 use Rattle.remove.proofs.delete.Statement.{statement}
@@ -30,8 +30,7 @@ same-length c = search needs
 returns : tie.Need-returns
 returns c =
     λ s o.
-    let e = deleted-absent s (model.search (c .before .before .before .before .before .args .key) (s .whole)) _ (sym (c .enum-told .given .1) ∙ c .before .before .search-tree .ensures s o) in
-    (o .words ∙ ap (λ (d : Reply). wordsOf (d .state)) (sym e), ap (λ (d : Reply). d .answer) (sym e))
+    stays o (deleted-absent s (model.search (c .before .before .before .before .before .args .key) (s .whole)) _ (sym (c .enum-told .given .1) ∙ c .before .before .search-tree .ensures s o))
 
 -- the pair's place, in whatever state the words hold
 placed : (c : tie.After-kv) {s : State} → Holds (c .before .before .before .before .before .args .a .now) s → Placed s (model.search (c .before .before .before .before .before .args .key) (s .whole)) (c .kv .given .0 .0)
@@ -51,7 +50,7 @@ returns-2 c =
     let q = placed (c .before .before .before .before .before) o in
     let r = c .before .before .remove-kv-tracking .ensures s o (q .kv) in
     let e = deleted-there q in
-    (r .1 .words ∙ ap (λ (d : Reply). wordsOf (d .state)) (sym e), ap (λ (p : Pair). Value (p .val)) (r .0) ∙ ap (λ (d : Reply). d .answer) (sym e))
+    does-as e (record { left = r .1 .words; said = ap (λ (p : Pair). Value (p .val)) (r .0) })
 
 pub delete-spec : {M : Type 1} → statement M
 delete-spec =
