@@ -18,7 +18,7 @@ use Rattle.model.specs.State.{State, Reply, Order, order, put, get, delete, tri
 use Rattle.model.specs.Words.{wordsOf}
 use Rattle.model.specs.Promise.{Holds, Fits, Does}
 use Rattle.model.proofs.Calls.{order-sound}
-use Rattle.listing.proofs.Sofar.{set-two}
+use Rattle.slices.proofs.Laws.{set-two}
 use Rattle.batch.specs.Orders.{orderOf, Ran}
 
 -- ---- an order by its code

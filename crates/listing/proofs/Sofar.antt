@@ -8,7 +8,7 @@ use mathlib.Core.Bool.{Bool, true, false}
 use mathlib.Core.Logic.{inr}
 use mathlib.Core.List.{List, [], _∷_, _++_, append-assoc, append-nil}
 use lib.Dec.{ltb}
-use lib.Seq.{set-at, take-at, drop-cons}
+use lib.Seq.{take-at}
 use lib.ListN.{length, getD, take, drop, set, length-append}
 use borrow.Author.Tests.{lt-ltb, le-ltb}
 use Rattle.model.specs.declared.Answer.the-variants.{Done}
@@ -23,6 +23,7 @@ use Rattle.model.specs.State.{State, listing, moreRemain}
 use Rattle.model.specs.Sound.{Sound}
 use Rattle.model.specs.Promise.{pairWords, laid, room}
 use Rattle.model.proofs.Walks.{Ahead, next-kv, next-edge, upTo, startEdge, start-parts, range-is}
+use Rattle.slices.proofs.Laws.{set-two}
 use Rattle.search.specs.declared.Handle.{Handle}
 use Rattle.search.specs.Results.{leafEdge}
 use Rattle.navigate.specs.declared.Next.the-variants.{Kv, End}
@@ -43,17 +44,6 @@ pairs-append (p ∷ ps) qs = ap (λ (l : List ℕ). p .key ∷ p .val ∷ l) (pa
 pub laid-none : (o : List ℕ) → o ≡ laid [] o
 unfolding laid
 laid-none o = refl
-
--- two words written after a prefix
-two : (a : List ℕ) (k v x y : ℕ) (d : List ℕ) (i : ℕ) → length a ≡ i → set (set (a ++ x ∷ y ∷ d) i k) (i + 1) v ≡ (a ++ k ∷ v ∷ []) ++ d
-two a k v x y d i e =
-    ap (λ (l : List ℕ). set l (i + 1) v) (set-at a x (y ∷ d) k i e ∙ sym (append-assoc a (k ∷ []) (y ∷ d)))
-    ∙ (set-at (a ++ k ∷ []) y d v (i + 1) (length-append a (k ∷ []) ∙ omega arith) ∙ simp append-assoc)
-
-pub set-two : (a : List ℕ) (k v : ℕ) (o : List ℕ) (i : ℕ) → length a ≡ i → i + 2 ≤ length o → set (set (a ++ drop i o) i k) (i + 1) v ≡ (a ++ k ∷ v ∷ []) ++ drop (i + 2) o
-set-two a k v o i e l =
-    ap (λ (d : List ℕ). set (set (a ++ d) i k) (i + 1) v) (drop-cons o i 0 (omega arith) ∙ ap (λ (d : List ℕ). getD o i 0 ∷ d) (drop-cons o (suc i) 0 (omega arith) ∙ ap (λ (j : ℕ). getD o (suc i) 0 ∷ drop j o) (let z : suc (suc i) ≡ i + 2 = omega arith in z)))
-    ∙ two a k v (getD o i 0) (getD o (suc i) 0) (drop (i + 2) o) i e
 
 laid-more : (ps : List Pair) (p : Pair) (o : List ℕ) (n : ℕ) → length ps ≡ n → 2 * n + 2 ≤ length o → set (set (laid ps o) (2 * n) (p .key)) (2 * n + 1) (p .val) ≡ laid (ps ++ p ∷ []) o
 unfolding laid

@@ -310,3 +310,14 @@ module _ {A B : Type 0} (f : A → B) where
   map-set [] i x = refl
   map-set (y ∷ l) zero x = refl
   map-set (y ∷ l) (suc i) x = ap (λ (t : List B). f y ∷ t) (map-set l i x)
+
+-- two words written after a prefix
+two : (a : List ℕ) (k v x y : ℕ) (d : List ℕ) (i : ℕ) → length a ≡ i → set (set (a ++ x ∷ y ∷ d) i k) (i + 1) v ≡ (a ++ k ∷ v ∷ []) ++ d
+two a k v x y d i e =
+    ap (λ (l : List ℕ). set l (i + 1) v) (set-at a x (y ∷ d) k i e ∙ sym (append-assoc a (k ∷ []) (y ∷ d)))
+    ∙ (set-at (a ++ k ∷ []) y d v (i + 1) (length-append a (k ∷ []) ∙ omega arith) ∙ simp append-assoc)
+
+pub set-two : (a : List ℕ) (k v : ℕ) (o : List ℕ) (i : ℕ) → length a ≡ i → i + 2 ≤ length o → set (set (a ++ drop i o) i k) (i + 1) v ≡ (a ++ k ∷ v ∷ []) ++ drop (i + 2) o
+set-two a k v o i e l =
+    ap (λ (d : List ℕ). set (set (a ++ d) i k) (i + 1) v) (drop-cons o i 0 (omega arith) ∙ ap (λ (d : List ℕ). getD o i 0 ∷ d) (drop-cons o (suc i) 0 (omega arith) ∙ ap (λ (j : ℕ). getD o (suc i) 0 ∷ drop j o) (let z : suc (suc i) ≡ i + 2 = omega arith in z)))
+    ∙ two a k v (getD o i 0) (getD o (suc i) 0) (drop (i + 2) o) i e
