@@ -2,15 +2,12 @@
 -- Assumes nothing.
 use Prim.Native.Nat.{ℕ, _-_}
 use native.Mathlib.Omega.{arith}
-use mathlib.Core.Path.{_≡_, refl, ap, subst, sym}
+use mathlib.Core.Path.{_≡_, ap, subst, sym}
 use mathlib.Core.Bool.{Bool, false, not}
-use mathlib.Core.Logic.{inl, inr}
 use mathlib.Core.List.{List}
-use Rattle.model.specs.declared.Answer.the-variants.{Done, BadArena}
 use Rattle.model.specs.Layout.{header, seenWord, markWord}
-use Rattle.model.specs.State.{check}
 use Rattle.model.specs.WellFormed.{WellFormed, keys}
-use Rattle.model.specs.Promise.{Holds, Call}
+use Rattle.model.specs.Promise.{Holds}
 use Rattle.model.proofs.Parts.{of-parts, parts-of, counted}
 use Rattle.model.proofs.Bounds.{low}
 use Rattle.model.proofs.Forward.{forward}
@@ -62,11 +59,3 @@ module _ {w : List ℕ} where
 
 pub given : (b : Bool) {w : List ℕ} → Decides b (WellFormed w) → not b ≡ false → Holds w (stateOf w)
 given b {w} d e = forward w (decided b d e)
-
--- ---- the call
-
-pub checked-good : (w : List ℕ) → WellFormed w → Call check w w Done
-checked-good w f = inr ((λ b. b f), record { state = stateOf w; holds = forward w f; left = forward w f .words; said = refl })
-
-pub checked-bad : (w : List ℕ) → (WellFormed w → ⊥) → Call check w w BadArena
-checked-bad w b = inl (b, (refl, refl))

@@ -256,8 +256,8 @@ pub fn well_formed(a: &[u64]) -> bool
 pub fn check(a: &[u64]) -> Answer
     ensures { λ r. ⌜ Call model.check (now (a .entry)) (now (a .entry)) r ⌝ }
 {
-    if well_formed(a) {
-        return Answer::Done;
+    if !well_formed(a) {
+        return Answer::BadArena;
     }
-    Answer::BadArena
+    Answer::Done
 }

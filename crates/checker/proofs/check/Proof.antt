@@ -1,6 +1,9 @@
 -- `checker::check` meets its contract.
 -- Assumes nothing.
-use Rattle.checker.proofs.Whole.{checked-good, checked-bad}
+use mathlib.Core.Path.{refl}
+use Rattle.model.specs.State.{check}
+use Rattle.model.proofs.Ends.{call-refused, call-done, stays}
+use Rattle.inspect.proofs.Decisions.{decided, refuted}
 use borrow.Author.Needs.{needs}
 use Rattle.checker.proofs.check.Statement.{statement}
 use Rattle.checker.proofs.check.Tie as tie
@@ -9,10 +12,10 @@ well-formed-requires : tie.Need-well-formed-requires
 well-formed-requires c κs = search needs
 
 returns : tie.Need-returns
-returns c = checked-good _ (rw (c .if1 .taken) at (c .before .well-formed .ensures))
+returns c = call-refused _ (refuted (c .before .well-formed .result) (c .before .well-formed .ensures) (c .if1 .taken))
 
 returns-2 : tie.Need-returns-2
-returns-2 c = checked-bad _ (rw (c .if1 .left) at (c .before .well-formed .ensures))
+returns-2 c = call-done check (decided (c .before .well-formed .result) (c .before .well-formed .ensures) (c .if1 .left)) (λ s o. stays o refl)
 
 pub check-spec : {M : Type 1} → statement M
 check-spec = tie.close (tie.spec well-formed-requires returns returns-2)
