@@ -8,7 +8,7 @@
  *   - `second`, `written` and `more` are never NULL; a slice of length 0 may have any pointer, NULL too;
  *   - words that a call writes overlap no other words lent to the same call, and nobody else touches them meanwhile.
  *
- * Every call but cuffgarnet_format first checks the whole arena, which costs about a pass over its words;
+ * Every call but cuffgarnet_format first checks the whole arena, which costs a few passes over its words (docs/SPEED.md);
  * cuffgarnet_batch does so once for all its orders.
  */
 #ifndef CUFFGARNET_H
