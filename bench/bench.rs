@@ -1,0 +1,555 @@
+//! Times the static library beside BTreeMap and absl::btree_map: the same orders, interleaved, answers compared.
+//!
+//!     bench time [--short]          a line a case and size: medians in nanoseconds
+//!     bench count CASE PAIRS WHO    one round of one case for one of ours, btree, absl, for callgrind (see bench/run)
+//!     bench check full|grown|free NODES     one check and one OR of an arena, for callgrind
+
+use std::collections::BTreeMap;
+use std::hint::black_box;
+use std::time::Instant;
+
+#[link(name = "cuffgarnet", kind = "static")]
+extern "C" {
+    fn cuffgarnet_format(arena: *mut u64, n: u64) -> u64;
+    fn cuffgarnet_check(arena: *const u64, n: u64) -> u64;
+    fn cuffgarnet_get(arena: *const u64, n: u64, key: u64, second: *mut u64) -> u64;
+    fn cuffgarnet_list(
+        arena: *const u64,
+        n: u64,
+        start_kind: u64,
+        start: u64,
+        end_kind: u64,
+        end: u64,
+        out: *mut u64,
+        out_n: u64,
+        written: *mut u64,
+        more: *mut u64,
+    ) -> u64;
+    fn cuffgarnet_batch(
+        arena: *mut u64,
+        n: u64,
+        orders: *const u64,
+        orders_n: u64,
+        answers: *mut u64,
+        answers_n: u64,
+    ) -> u64;
+}
+
+#[repr(C)]
+struct Absl {
+    opaque: [u8; 0],
+}
+
+extern "C" {
+    fn absl_new() -> *mut Absl;
+    fn absl_free(map: *mut Absl);
+    fn absl_batch(map: *mut Absl, orders: *const u64, n: usize, answers: *mut u64);
+    fn timed_absl_batch(map: *mut Absl, orders: *const u64, n: usize, answers: *mut u64);
+    fn timed_absl_list(map: *mut Absl, out: *mut u64, room: usize) -> usize;
+}
+
+// ---- what is timed, and what callgrind counts by name
+
+#[no_mangle]
+#[inline(never)]
+fn timed_ours_batch(arena: &mut [u64], orders: &[u64], answers: &mut [u64]) {
+    let (n, o, a) = (arena.len() as u64, orders.len() as u64, answers.len() as u64);
+    let said = unsafe { cuffgarnet_batch(arena.as_mut_ptr(), n, orders.as_ptr(), o, answers.as_mut_ptr(), a) };
+    assert_eq!(said, 0);
+}
+
+#[no_mangle]
+#[inline(never)]
+fn timed_ours_check(arena: &[u64]) {
+    assert_eq!(unsafe { cuffgarnet_check(arena.as_ptr(), arena.len() as u64) }, 0);
+}
+
+#[no_mangle]
+#[inline(never)]
+fn timed_ours_get(arena: &[u64], key: u64) -> u64 {
+    let mut second = 0;
+    unsafe { cuffgarnet_get(arena.as_ptr(), arena.len() as u64, key, &mut second) };
+    second
+}
+
+#[no_mangle]
+#[inline(never)]
+fn timed_ours_list(arena: &[u64], out: &mut [u64]) -> usize {
+    let (mut written, mut more) = (0, 0);
+    let (n, room) = (arena.len() as u64, out.len() as u64);
+    unsafe { cuffgarnet_list(arena.as_ptr(), n, 0, 0, 0, 0, out.as_mut_ptr(), room, &mut written, &mut more) };
+    written as usize
+}
+
+#[no_mangle]
+#[inline(never)]
+fn timed_or(arena: &[u64]) -> u64 {
+    arena.iter().fold(0, |all, word| all | word)
+}
+
+#[no_mangle]
+#[inline(never)]
+fn timed_btree_batch(map: &mut BTreeMap<u64, u64>, orders: &[u64], answers: &mut [u64]) {
+    for (order, answer) in orders.chunks_exact(3).zip(answers.chunks_exact_mut(2)) {
+        let (number, second) = match order[0] {
+            1 => map.insert(order[1], order[2]).map_or((0, 0), |v| (1, v)),
+            2 => map.get(&order[1]).map_or((2, 0), |v| (1, *v)),
+            3 => map.remove(&order[1]).map_or((2, 0), |v| (1, v)),
+            _ => (6, 0),
+        };
+        answer[0] = number;
+        answer[1] = second;
+    }
+}
+
+#[no_mangle]
+#[inline(never)]
+fn timed_btree_list(map: &BTreeMap<u64, u64>, out: &mut [u64]) -> usize {
+    let mut wrote = 0;
+    for ((key, value), pair) in map.iter().zip(out.chunks_exact_mut(2)) {
+        pair[0] = *key;
+        pair[1] = *value;
+        wrote += 1;
+    }
+    wrote
+}
+
+// ---- the three, each behind the same orders
+
+#[derive(Clone, Copy, PartialEq)]
+enum Who {
+    Ours,
+    Btree,
+    Absl,
+}
+
+const ALL: [Who; 3] = [Who::Ours, Who::Btree, Who::Absl];
+
+struct Three {
+    turn: usize,
+    arena: Vec<u64>,
+    btree: BTreeMap<u64, u64>,
+    absl: *mut Absl,
+}
+
+/// Nanoseconds and orders of the runs, and of the checks alone. Of ours every second run is timed, and before each other
+/// one a check: a check just before a timed run would warm the caches for the run's own.
+#[derive(Clone, Copy, Default)]
+struct Spent {
+    run: f64,
+    ran: usize,
+    check: f64,
+    checked: usize,
+}
+
+impl Spent {
+    fn of_run(run: f64, ran: usize) -> Self {
+        Spent { run, ran, ..Spent::default() }
+    }
+
+    fn add(&mut self, other: Spent) {
+        self.run += other.run;
+        self.ran += other.ran;
+        self.check += other.check;
+        self.checked += other.checked;
+    }
+}
+
+fn spent(f: impl FnOnce()) -> f64 {
+    let start = Instant::now();
+    f();
+    start.elapsed().as_nanos() as f64
+}
+
+impl Three {
+    fn new(nodes: usize) -> Self {
+        let mut arena = vec![0; 10 + 38 * nodes];
+        assert_eq!(unsafe { cuffgarnet_format(arena.as_mut_ptr(), arena.len() as u64) }, 0);
+        Three { turn: 0, arena, btree: BTreeMap::new(), absl: unsafe { absl_new() } }
+    }
+
+    /// Runs orders untimed.
+    fn fill(&mut self, who: Who, orders: &[u64]) {
+        let mut answers = vec![0; orders.len() / 3 * 2];
+        match who {
+            Who::Ours => {
+                let (n, o, a) = (self.arena.len() as u64, orders.len() as u64, answers.len() as u64);
+                let (arena, orders, answers) = (self.arena.as_mut_ptr(), orders.as_ptr(), answers.as_mut_ptr());
+                assert_eq!(unsafe { cuffgarnet_batch(arena, n, orders, o, answers, a) }, 0);
+            }
+            Who::Btree => self.btree.extend(orders.chunks_exact(3).map(|o| (o[1], o[2]))),
+            Who::Absl => unsafe { absl_batch(self.absl, orders.as_ptr(), orders.len() / 3, answers.as_mut_ptr()) },
+        }
+    }
+
+    fn run(&mut self, who: Who, orders: &[u64], answers: &mut [u64]) -> Spent {
+        let n = orders.len() / 3;
+        match who {
+            Who::Ours => self.ours(n, |arena| timed_ours_batch(arena, orders, answers)),
+            Who::Btree => Spent::of_run(spent(|| timed_btree_batch(&mut self.btree, orders, answers)), n),
+            Who::Absl => {
+                let (orders, answers) = (orders.as_ptr(), answers.as_mut_ptr());
+                Spent::of_run(spent(|| unsafe { timed_absl_batch(self.absl, orders, n, answers) }), n)
+            }
+        }
+    }
+
+    fn list(&mut self, who: Who, out: &mut [u64]) -> Spent {
+        let n = out.len() / 2;
+        match who {
+            Who::Ours => self.ours(n, |arena| assert_eq!(timed_ours_list(arena, out), n)),
+            Who::Btree => Spent::of_run(spent(|| assert_eq!(timed_btree_list(&self.btree, out), n)), n),
+            Who::Absl => {
+                let f = || assert_eq!(unsafe { timed_absl_list(self.absl, out.as_mut_ptr(), n) }, n);
+                Spent::of_run(spent(f), n)
+            }
+        }
+    }
+
+    fn ours(&mut self, n: usize, f: impl FnOnce(&mut [u64])) -> Spent {
+        self.turn += 1;
+        if self.turn % 2 == 1 {
+            return Spent::of_run(spent(|| f(&mut self.arena)), n);
+        }
+        let check = spent(|| timed_ours_check(&self.arena));
+        f(&mut self.arena);
+        Spent { check, checked: n, ..Spent::default() }
+    }
+}
+
+impl Drop for Three {
+    fn drop(&mut self) {
+        unsafe { absl_free(self.absl) }
+    }
+}
+
+// ---- orders
+
+struct Rand(u64);
+
+impl Rand {
+    fn next(&mut self) -> u64 {
+        self.0 = self.0.wrapping_add(0x9e37_79b9_7f4a_7c15);
+        let mut x = self.0;
+        x = (x ^ (x >> 30)).wrapping_mul(0xbf58_476d_1ce4_e5b9);
+        x = (x ^ (x >> 27)).wrapping_mul(0x94d0_49bb_1331_11eb);
+        x ^ (x >> 31)
+    }
+
+    fn below(&mut self, n: usize) -> usize {
+        (self.next() % n as u64) as usize
+    }
+
+    fn shuffle(&mut self, list: &mut [u64]) {
+        for i in (1..list.len()).rev() {
+            list.swap(i, self.below(i + 1));
+        }
+    }
+}
+
+const OPS: usize = 100_000;
+const BATCH: usize = 1_000;
+
+/// Keys of a case of so many pairs: those present, and as many (at most OPS) absent ones.
+struct Keys {
+    present: Vec<u64>,
+    absent: Vec<u64>,
+}
+
+impl Keys {
+    fn new(pairs: usize) -> Self {
+        let mut rand = Rand(pairs as u64);
+        let present = (0..pairs).map(|_| rand.next()).collect();
+        let absent = (0..pairs.min(OPS)).map(|_| rand.next()).collect();
+        Keys { present, absent }
+    }
+
+    /// Nodes enough for so many pairs: a B-tree that is grown and shrunk at random has six or seven a node.
+    fn nodes(&self, all: bool) -> usize {
+        let pairs = self.present.len() + if all { self.absent.len() } else { 0 };
+        (pairs / 5 + 16).min(65_535)
+    }
+}
+
+fn orders(code: u64, keys: impl Iterator<Item = u64>) -> Vec<u64> {
+    keys.flat_map(|key| [code, key, key >> 7]).collect()
+}
+
+/// So many orders of one kind at random keys of a list.
+fn drawn(code: u64, keys: &[u64], rand: &mut Rand) -> Vec<u64> {
+    orders(code, (0..OPS).map(|_| keys[rand.below(keys.len())]))
+}
+
+/// Half gets, a quarter puts, a quarter deletes, over all keys: about half of them are present at any time.
+fn mixed(keys: &[u64], rand: &mut Rand) -> Vec<u64> {
+    let one = |_| {
+        let key = keys[rand.below(keys.len())];
+        [[2, 2, 1, 3][rand.below(4)], key, key >> 9]
+    };
+    (0..OPS).flat_map(one).collect()
+}
+
+// ---- cases
+
+const CASES: [&str; 9] = ["get", "absent", "replace", "new", "delete", "list", "mixed", "batches", "swept"];
+
+/// What a round of a case comes to: orders, batches of them, and the times of the three.
+struct Round {
+    ops: usize,
+    batches: usize,
+    spent: [Spent; 3],
+}
+
+impl Round {
+    /// Nanoseconds an order.
+    fn run(&self, who: Who) -> Option<f64> {
+        let s = self.spent[who as usize];
+        (s.ran > 0).then(|| s.run / s.ran as f64)
+    }
+
+    fn check(&self) -> Option<f64> {
+        let s = self.spent[0];
+        (s.checked > 0).then(|| s.check / s.checked as f64)
+    }
+}
+
+struct Case {
+    name: &'static str,
+    keys: Keys,
+    three: Three,
+    turn: u64,
+}
+
+impl Case {
+    fn new(name: &'static str, pairs: usize, who: &[Who]) -> Self {
+        let keys = Keys::new(pairs);
+        let mut three = Three::new(keys.nodes(matches!(name, "new" | "delete")));
+        for w in who {
+            three.fill(*w, &orders(1, keys.present.iter().copied()));
+        }
+        Case { name, keys, three, turn: 0 }
+    }
+
+    /// One round of the case for each of those asked for, in turn.
+    fn round(&mut self, who: &[Who]) -> Round {
+        self.turn += 1;
+        let mut rand = Rand(self.turn * 1_000_003);
+        let every: Vec<u64> = self.keys.present.iter().chain(&self.keys.absent).copied().collect();
+        match self.name {
+            "get" => self.one(who, drawn(2, &self.keys.present, &mut rand), OPS),
+            "absent" => self.one(who, drawn(2, &self.keys.absent, &mut rand), OPS),
+            "replace" => self.one(who, drawn(1, &self.keys.present, &mut rand), OPS),
+            "mixed" => self.one(who, mixed(&every, &mut rand), OPS),
+            "batches" | "swept" => self.one(who, mixed(&every, &mut rand), BATCH),
+            "new" | "delete" => self.grow(who, &mut rand),
+            _ => self.list(who),
+        }
+    }
+
+    /// Orders in batches of one length. A check leaves the caches full of the arena; where the case says so, the other two
+    /// run after a pass over as many words.
+    fn one(&mut self, who: &[Who], orders: Vec<u64>, batch: usize) -> Round {
+        let mut answers = vec![vec![0; orders.len() / 3 * 2]; 3];
+        let mut total = [Spent::default(); 3];
+        for w in who {
+            let parts = orders.chunks(3 * batch).zip(answers[*w as usize].chunks_mut(2 * batch));
+            for (orders, answers) in parts {
+                if self.name == "swept" && *w != Who::Ours {
+                    black_box(timed_or(black_box(&self.three.arena)));
+                }
+                total[*w as usize].add(self.three.run(*w, orders, answers));
+            }
+        }
+        same(who, &answers);
+        Round { ops: orders.len() / 3, batches: orders.len().div_ceil(3 * batch), spent: total }
+    }
+
+    /// Puts all absent keys and deletes them again, as often as makes OPS orders; one of the two is timed.
+    fn grow(&mut self, who: &[Who], rand: &mut Rand) -> Round {
+        let times = OPS / self.keys.absent.len();
+        let mut total = [Spent::default(); 3];
+        for _ in 0..times {
+            for code in [1, 3] {
+                rand.shuffle(&mut self.keys.absent);
+                let orders = orders(code, self.keys.absent.iter().copied());
+                let mut answers = vec![vec![0; orders.len() / 3 * 2]; 3];
+                let timed = (code == 1) == (self.name == "new");
+                for w in who {
+                    if timed {
+                        total[*w as usize].add(self.three.run(*w, &orders, &mut answers[*w as usize]));
+                    } else {
+                        self.untimed(*w, &orders);
+                    }
+                }
+                if timed {
+                    same(who, &answers);
+                }
+            }
+        }
+        Round { ops: times * self.keys.absent.len(), batches: times, spent: total }
+    }
+
+    /// The other half of `grow`, by calls that callgrind does not count.
+    fn untimed(&mut self, who: Who, orders: &[u64]) {
+        match who {
+            Who::Btree => {
+                for order in orders.chunks_exact(3) {
+                    if order[0] == 1 {
+                        self.three.btree.insert(order[1], order[2]);
+                    } else {
+                        self.three.btree.remove(&order[1]);
+                    }
+                }
+            }
+            _ => self.three.fill(who, orders),
+        }
+    }
+
+    /// All pairs, as often as makes OPS pairs.
+    fn list(&mut self, who: &[Who]) -> Round {
+        let pairs = self.keys.present.len();
+        let times = (OPS / pairs).max(1);
+        let mut total = [Spent::default(); 3];
+        let mut out = vec![vec![0; 2 * pairs]; 3];
+        for _ in 0..times {
+            for w in who {
+                total[*w as usize].add(self.three.list(*w, &mut out[*w as usize]));
+            }
+        }
+        same(who, &out);
+        Round { ops: times * pairs, batches: times, spent: total }
+    }
+}
+
+/// All that ran answered the same.
+fn same(who: &[Who], answers: &[Vec<u64>]) {
+    assert!(who.windows(2).all(|w| answers[w[0] as usize] == answers[w[1] as usize]), "the answers differ");
+}
+
+/// The quarter, the middle and the three quarters of a list.
+fn quarters(mut list: Vec<f64>) -> [f64; 3] {
+    list.sort_by(f64::total_cmp);
+    [list[list.len() / 4], list[list.len() / 2], list[list.len() * 3 / 4]]
+}
+
+fn median(list: Vec<f64>) -> f64 {
+    quarters(list)[1]
+}
+
+/// The three in another order each round.
+fn rotated(round: usize) -> [Who; 3] {
+    [ALL[round % 3], ALL[(round + 1) % 3], ALL[(round + 2) % 3]]
+}
+
+fn time_cases(pairs: usize, rounds: usize) {
+    for name in CASES {
+        let mut case = Case::new(name, pairs, &ALL);
+        let rounds: Vec<Round> = (0..rounds).map(|r| case.round(&rotated(r))).collect();
+        let of = |f: &dyn Fn(&Round) -> Option<f64>| median(rounds.iter().filter_map(f).collect());
+        let (ours, check) = (of(&|r| r.run(Who::Ours)), of(&|r| r.check()));
+        let (btree, absl) = (of(&|r| r.run(Who::Btree)), of(&|r| r.run(Who::Absl)));
+        // a round's own ratio: the three ran one after the other, whatever else the machine did that minute
+        let ratio = |who: Who| {
+            let one = |r: &Round| Some((r.run(Who::Ours)? - r.check().unwrap_or(check)) / r.run(who)?);
+            quarters(rounds.iter().filter_map(one).collect())
+        };
+        let ([b1, b2, b3], [a1, a2, a3]) = (ratio(Who::Btree), ratio(Who::Absl));
+        let (ops, batches) = (rounds[0].ops, rounds[0].batches);
+        print!("{name},{pairs},{ops},{batches},{ours:.2},{check:.2},{btree:.2},{absl:.2},");
+        println!("{b1:.3},{b2:.3},{b3:.3},{a1:.3},{a2:.3},{a3:.3}");
+    }
+}
+
+/// An arena with no free node to speak of: filled at random until there is no room.
+fn full(nodes: usize) -> Vec<u64> {
+    let mut three = Three::new(nodes);
+    let mut rand = Rand(nodes as u64);
+    let asked: Vec<u64> = (0..11 * nodes).map(|_| rand.next()).collect();
+    three.fill(Who::Ours, &orders(1, asked.into_iter()));
+    std::mem::take(&mut three.arena)
+}
+
+/// An arena as it is in use: grown at random to five pairs a node, so that about a quarter of the nodes are free.
+fn grown(nodes: usize) -> Vec<u64> {
+    let mut three = Three::new(nodes);
+    let mut rand = Rand(nodes as u64);
+    let asked: Vec<u64> = (0..5 * nodes).map(|_| rand.next()).collect();
+    three.fill(Who::Ours, &orders(1, asked.into_iter()));
+    std::mem::take(&mut three.arena)
+}
+
+fn free(nodes: usize) -> Vec<u64> {
+    std::mem::take(&mut Three::new(nodes).arena)
+}
+
+fn arena(kind: &str, nodes: usize) -> Vec<u64> {
+    match kind {
+        "full" => full(nodes),
+        "grown" => grown(nodes),
+        _ => free(nodes),
+    }
+}
+
+const NODES: [usize; 5] = [16, 160, 1_600, 16_000, 65_535];
+
+/// The check beside one OR over the same words, and a single get, which checks first.
+fn time_check(nodes: usize, rounds: usize) {
+    for name in ["full", "grown", "free"] {
+        let arena = arena(name, nodes);
+        let times = (4_000_000 / arena.len()).max(1);
+        let (mut check, mut or, mut get) = (vec![], vec![], vec![]);
+        for round in 0..rounds {
+            let f = || (0..times).for_each(|_| timed_ours_check(black_box(&arena)));
+            let g = || (0..times).for_each(|_| _ = black_box(timed_or(black_box(&arena))));
+            let h = || (0..times).for_each(|i| _ = black_box(timed_ours_get(black_box(&arena), i as u64)));
+            if round % 2 == 0 {
+                check.push(spent(f));
+                or.push(spent(g));
+            } else {
+                or.push(spent(g));
+                check.push(spent(f));
+            }
+            get.push(spent(h));
+        }
+        let each = |list| quarters(list)[0] / times as f64; // other work on the machine only adds
+        let (check, or, get) = (each(check), each(or), each(get));
+        println!("{name},{nodes},{},{pairs},{check:.1},{or:.1},{get:.1}", arena.len(), pairs = arena[5]);
+    }
+}
+
+fn main() {
+    let args: Vec<String> = std::env::args().skip(1).collect();
+    let words: Vec<&str> = args.iter().map(String::as_str).collect();
+    match words[..] {
+        ["time", ref short @ ..] => {
+            let (sizes, nodes, rounds): (&[usize], &[usize], usize) = match short {
+                [] => (&[100, 1_000, 10_000, 50_000, 150_000], &NODES, 41),
+                _ => (&[1_000, 50_000], &NODES[1..3], 9),
+            };
+            println!("case,pairs,orders,batches,ours,check,btree,absl,b1,b2,b3,a1,a2,a3");
+            sizes.iter().for_each(|pairs| time_cases(*pairs, rounds));
+            println!("arena,nodes,words,pairs,check,or,get");
+            nodes.iter().for_each(|n| time_check(*n, rounds));
+        }
+        ["count", case, pairs, who] => {
+            let who = [match who {
+                "ours" => Who::Ours,
+                "btree" => Who::Btree,
+                _ => Who::Absl,
+            }];
+            let name = CASES.into_iter().find(|c| *c == case).expect("a case");
+            let round = Case::new(name, pairs.parse().expect("a number"), &who).round(&who);
+            println!("{},{}", round.ops, round.batches);
+        }
+        ["check", kind, nodes] => {
+            let nodes = nodes.parse().expect("a number");
+            let arena = arena(kind, nodes);
+            timed_ours_check(black_box(&arena));
+            black_box(timed_or(black_box(&arena)));
+            println!("{},{}", arena.len(), arena[5]);
+        }
+        _ => eprintln!(
+            "bench time [--short] | bench count CASE PAIRS ours|btree|absl | bench check full|grown|free NODES"
+        ),
+    }
+}
