@@ -122,6 +122,8 @@ def plot(path):
     cases, checks = tables(path)
     lines = {}
     for r in cases:
+        if r["case"] == "swept":
+            continue  # a small difference of two large times: in the table, with its quarters
         lines.setdefault(NAMES[r["case"]], []).append((int(r["pairs"]), float(r["b2"])))
     check = {}
     for r in checks:

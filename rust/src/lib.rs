@@ -19,8 +19,8 @@
 //! # What a call costs
 //!
 //! The words may come from anywhere, so **every call but formatting first checks the whole arena**: whatever the key, it
-//! reads each node once, some 25 nanoseconds a node in use and 8 a free one while the arena is in the caches, several times
-//! as long where it is not. A damaged arena is refused with [`Error::BadArena`] and never believed. [`Index::apply`] checks
+//! reads each node once, some 25 nanoseconds a node in use and 8 a free one while the arena is in the caches, two to four
+//! times as long where it is not. A damaged arena is refused with [`Error::BadArena`] and never believed. [`Index::apply`] checks
 //! once for a whole batch of orders: use it wherever there is more than one thing to do. docs/SPEED.md in the repository
 //! has the figures.
 //!
