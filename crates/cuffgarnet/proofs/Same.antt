@@ -1,0 +1,61 @@
+-- Any results that an exported call's promise allows are one and the same: what is returned, written out and left in each lent word.
+-- Assumes nothing.
+use Prim.Native.Nat.{ℕ}
+use mathlib.Core.Path.{_≡_, sym, ap, _∙_}
+use mathlib.Core.Bool.{false, cond}
+use mathlib.Core.List.{List, [], _∷_}
+use Rattle.model.specs.declared.Answer.{Answer}
+use Rattle.model.specs.declared.Listed.{Listed}
+use Rattle.model.specs.Answer.{numbersOf}
+use Rattle.model.specs.State.{State, Reply}
+use Rattle.model.specs.Promise.{Call, Format, Batch, Restore, Listing, badArena}
+use Rattle.model.proofs.Unique.{one-end, one-call, one-format, one-listing, one-batch, one-restore}
+use Rattle.cuffgarnet.specs.declared.Bound.{Bound}
+use Rattle.cuffgarnet.specs.declared.Bound.the-variants.{Known, Unknown}
+use Rattle.cuffgarnet.specs.Exported.{Numbered, Worded, Told, noKind, Between}
+
+-- one answer has one number
+pub one-number : {P Q : Answer → Type 0} {n m : ℕ} (x : Numbered P n) (y : Numbered Q m) → x .answer ≡ y .answer → n ≡ m
+one-number x y e = x .number-is ∙ ap (λ (a : Answer). (numbersOf a) .number) e ∙ sym (y .number-is)
+
+-- and one second word
+pub one-word : {P Q : Answer → Type 0} {n m u v : ℕ} (x : Worded P n u) (y : Worded Q m v) → x .answer ≡ y .answer → (n ≡ m) × (u ≡ v)
+one-word x y e = (x .number-is ∙ ap (λ (a : Answer). (numbersOf a) .number) e ∙ sym (y .number-is), x .second-is ∙ ap (λ (a : Answer). (numbersOf a) .word) e ∙ sym (y .second-is))
+
+pub same-format : (w : List ℕ) {w₁ w₂ : List ℕ} {n m : ℕ} → Numbered (Format w w₁) n → Numbered (Format w w₂) m → (w₁ ≡ w₂) × (n ≡ m)
+same-format w x y = let e = one-format w (x .given) (y .given) in (e .0, one-number x y (e .1))
+
+-- check, which has no second word
+pub same-check : (call : State → Reply) (w : List ℕ) {w₁ w₂ : List ℕ} {n m : ℕ} → Numbered (Call call w w₁) n → Numbered (Call call w w₂) m → (w₁ ≡ w₂) × (n ≡ m)
+same-check call w x y = let e = one-call call w (x .given) (y .given) in (e .0, one-number x y (e .1))
+
+-- get, put, delete
+pub same-call : (call : State → Reply) (w : List ℕ) {w₁ w₂ : List ℕ} {n m u v : ℕ} → Worded (Call call w w₁) n u → Worded (Call call w w₂) m v → (w₁ ≡ w₂) × (n ≡ m) × (u ≡ v)
+same-call call w x y = let e = one-call call w (x .given) (y .given) in let f = one-word x y (e .1) in (e .0, f .0, f .1)
+
+pub same-batch : (b w a : List ℕ) {w₁ w₂ a₁ a₂ : List ℕ} {n m : ℕ} → Numbered (Batch b w w₁ a a₁) n → Numbered (Batch b w w₂ a a₂) m → (w₁ ≡ w₂) × (a₁ ≡ a₂) × (n ≡ m)
+same-batch b w a x y = let e = one-batch b w a (x .given) (y .given) in (e .0, e .1, one-number x y (e .2))
+
+pub same-restore : (w i : List ℕ) {w₁ w₂ : List ℕ} {n m : ℕ} → Numbered (Restore w w₁ i) n → Numbered (Restore w w₂ i) m → (w₁ ≡ w₂) × (n ≡ m)
+same-restore w i x y = let e = one-restore w i (x .given) (y .given) in (e .0, one-number x y (e .1))
+
+-- a listing between two bounds, of whatever kinds
+one-refused : (w o : List ℕ) {o₁ o₂ : List ℕ} {r₁ r₂ : Listed} → Between Unknown Unknown w o o₁ r₁ → Between Unknown Unknown w o o₂ r₂ → (o₁ ≡ o₂) × (r₁ ≡ r₂)
+one-refused w o {o₁} {o₂} {r₁} {r₂} = one-end (badArena w ∷ noKind ∷ []) left (λ x y. absurd x)
+  where
+    left : (a : Answer) → (o₁ ≡ o) × (r₁ ≡ record { answer = a; wrote = 0; more = false }) → (o₂ ≡ o) × (r₂ ≡ record { answer = a; wrote = 0; more = false }) → (o₁ ≡ o₂) × (r₁ ≡ r₂)
+    left a x y = (x .0 ∙ sym (y .0), x .1 ∙ sym (y .1))
+
+one-between : (s e : Bound) (w o : List ℕ) {o₁ o₂ : List ℕ} {r₁ r₂ : Listed} → Between s e w o o₁ r₁ → Between s e w o o₂ r₂ → (o₁ ≡ o₂) × (r₁ ≡ r₂)
+one-between (Known s) (Known e) w o x y = let d = one-listing (record { start = s; end = e }) w o x y in (d .1, d .2)
+one-between (Known s) Unknown w o x y = one-refused w o x y
+one-between Unknown e w o x y = one-refused w o x y
+
+pub same-listing : (s e : Bound) (w o : List ℕ) {o₁ o₂ : List ℕ} {n m j k u v : ℕ} → Told (Between s e w o o₁) n j u → Told (Between s e w o o₂) m k v → (o₁ ≡ o₂) × (n ≡ m) × (j ≡ k) × (u ≡ v)
+same-listing s e w o x y =
+    let d = one-between s e w o (x .given) (y .given) in (
+      d .0,
+      x .number-is ∙ ap (λ (l : Listed). (numbersOf (l .answer)) .number) (d .1) ∙ sym (y .number-is),
+      x .written-is ∙ ap (λ (l : Listed). l .wrote) (d .1) ∙ sym (y .written-is),
+      x .more-is ∙ ap (λ (l : Listed). cond (l .more) 1 0) (d .1) ∙ sym (y .more-is),
+    )

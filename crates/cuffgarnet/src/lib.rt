@@ -1,0 +1,167 @@
+// The library that Rust and C link: the public calls under C's names, u64 throughout, a slice as its pointer and its length. A call returns
+// its answer's number; what comes with the number is written through a pointer to one word.
+use batch::batch;
+use checker::check;
+use checker::well_formed;
+use format::format;
+use listing::list;
+use map::delete;
+use map::get;
+use map::put;
+use model::Answer;
+use model::Listed;
+use model::Range;
+use model::SearchBound;
+use restore::restore;
+ghost use mathlib.Core.Path.{_≡_};
+ghost use Prim.Native.Nat.{ℕ};
+ghost use mathlib.Core.Bool.{false};
+ghost use mathlib.Core.List.{List};
+ghost use Rattle.model.specs.State as model;
+ghost use Rattle.model.specs.Promise.{Call, Format, Batch, Restore};
+ghost use Rattle.cuffgarnet.specs.declared.Bound.the-variants.{Unknown};
+ghost use Rattle.cuffgarnet.specs.Exported.{Numbered, Worded, Told, boundOf, Between};
+
+// A bound asked for by its kind.
+pub enum Bound {
+    Known(SearchBound),
+    Unknown,
+}
+
+// Formats the words.
+#[no_mangle]
+pub extern "C" fn cuffgarnet_format(arena: &mut [u64]) -> u64
+    ensures { λ r. ⌜ Numbered (Format (now (arena .entry)) (now (arena .exit))) r ⌝ }
+{
+    let made = format(arena);
+    made.number()
+}
+
+// Whether the words are a well-formed arena.
+#[no_mangle]
+pub extern "C" fn cuffgarnet_check(arena: &[u64]) -> u64
+    ensures { λ r. ⌜ Numbered (Call model.check (now (arena .entry)) (now (arena .entry))) r ⌝ }
+{
+    let sound = check(arena);
+    sound.number()
+}
+
+// The value of a key.
+#[no_mangle]
+pub extern "C" fn cuffgarnet_get(arena: &[u64], key: u64, second: &mut u64) -> u64
+    ensures { λ r. ⌜ Worded (Call (model.get key) (now (arena .entry)) (now (arena .entry))) r (now (second .exit)) ⌝ }
+{
+    let found = get(arena, key);
+    *second = found.word();
+    found.number()
+}
+
+// Puts a pair.
+#[no_mangle]
+pub extern "C" fn cuffgarnet_put(arena: &mut [u64], key: u64, value: u64, second: &mut u64) -> u64
+    ensures { λ r. ⌜ Worded (Call (model.put key value) (now (arena .entry)) (now (arena .exit))) r (now (second .exit)) ⌝ }
+{
+    let former = put(arena, key, value);
+    *second = former.word();
+    former.number()
+}
+
+// Takes the pair of a key out.
+#[no_mangle]
+pub extern "C" fn cuffgarnet_delete(arena: &mut [u64], key: u64, second: &mut u64) -> u64
+    ensures { λ r. ⌜ Worded (Call (model.delete key) (now (arena .entry)) (now (arena .exit))) r (now (second .exit)) ⌝ }
+{
+    let gone = delete(arena, key);
+    *second = gone.word();
+    gone.number()
+}
+
+// The bound of a kind.
+fn bound_of(kind: u64, key: u64) -> Bound
+    ensures { λ r. ⌜ r ≡ boundOf kind key ⌝ }
+{
+    match kind {
+        0 => Bound::Known(SearchBound::AllIncluded),
+        1 => Bound::Known(SearchBound::Included(key)),
+        2 => Bound::Known(SearchBound::Excluded(key)),
+        _ => Bound::Unknown,
+    }
+}
+
+// A refused listing.
+fn refused(answer: Answer) -> Listed
+    ensures { λ r. ⌜ r ≡ record { answer = answer; wrote = 0; more = false } ⌝ }
+{
+    Listed {
+        answer,
+        wrote: 0,
+        more: false,
+    }
+}
+
+// What a bound of no kind gives: a bad arena comes first.
+fn no_kind(arena: &[u64]) -> Listed
+    ensures { λ r. ⌜ ((o : List ℕ) → Between Unknown Unknown (now (arena .entry)) o o r) ⌝ }
+{
+    if !well_formed(arena) {
+        return refused(Answer::BadArena);
+    }
+    refused(Answer::BadRange)
+}
+
+// The listing between two bounds.
+fn list_between(arena: &[u64], start: Bound, end: Bound, out: &mut [u64]) -> Listed
+    ensures { λ r. ⌜ Between start end (now (arena .entry)) (now (out .entry)) (now (out .exit)) r ⌝ }
+{
+    match start {
+        Bound::Unknown => no_kind(arena),
+        Bound::Known(s) => match end {
+            Bound::Unknown => no_kind(arena),
+            Bound::Known(e) => list(arena, Range { start: s, end: e }, out),
+        },
+    }
+}
+
+// Lists a range into a lent output.
+#[no_mangle]
+pub extern "C" fn cuffgarnet_list(
+    arena: &[u64],
+    start_kind: u64,
+    start: u64,
+    end_kind: u64,
+    end: u64,
+    out: &mut [u64],
+    written: &mut u64,
+    more: &mut u64,
+) -> u64
+    ensures { λ r. ⌜ Told (Between (boundOf «start_kind» start) (boundOf «end_kind» end) (now (arena .entry)) (now (out .entry)) (now (out .exit))) r (now (written .exit)) (now (more .exit)) ⌝ }
+{
+    let l = list_between(
+        arena,
+        bound_of(start_kind, start),
+        bound_of(end_kind, end),
+        out,
+    );
+    *written = l.wrote as u64;
+    *more = l.more as u64;
+    let r = l.answer;
+    r.number()
+}
+
+// Runs a batch of orders.
+#[no_mangle]
+pub extern "C" fn cuffgarnet_batch(arena: &mut [u64], orders: &[u64], answers: &mut [u64]) -> u64
+    ensures { λ r. ⌜ Numbered (Batch (now (orders .entry)) (now (arena .entry)) (now (arena .exit)) (now (answers .entry)) (now (answers .exit))) r ⌝ }
+{
+    let ran = batch(arena, orders, answers);
+    ran.number()
+}
+
+// Restores an image; the mark stays.
+#[no_mangle]
+pub extern "C" fn cuffgarnet_restore(arena: &mut [u64], image: &[u64]) -> u64
+    ensures { λ r. ⌜ Numbered (Restore (now (arena .entry)) (now (arena .exit)) (now (image .entry))) r ⌝ }
+{
+    let restored = restore(arena, image);
+    restored.number()
+}

@@ -1,0 +1,88 @@
+/* The nonce story in C. A broker encrypts each message under a counter and keeps counter -> slot in the index. It saves the
+ * words, goes on, and loses its disk: after the restore the saved pairs are back, and the next counter is still a fresh one.
+ *
+ * tools/try compiles this, runs it and compares what it writes with nonces.txt. */
+#include "cuffgarnet.h"
+
+#include <stdio.h>
+#include <stdlib.h>
+#include <string.h>
+
+enum { NODES = 64, ROOM = 8 };
+
+static uint64_t arena[CUFFGARNET_WORDS(NODES)];
+static uint64_t image[CUFFGARNET_WORDS(NODES)];
+static const uint64_t N = CUFFGARNET_WORDS(NODES);
+
+/* A call's number, and what is written of it. */
+static void say(const char *what, uint64_t number, uint64_t second) {
+    printf("%-34s %llu %llu\n", what, (unsigned long long)number, (unsigned long long)second);
+}
+
+/* The next counter: above every key that was ever put, whatever was restored since. */
+static uint64_t next_counter(void) {
+    if (cuffgarnet_check(arena, N) != CUFFGARNET_DONE) {
+        fprintf(stderr, "the arena is damaged\n");
+        exit(1);
+    }
+    if (arena[CUFFGARNET_WORD_SEEN] == 0) return 1;
+    if (arena[CUFFGARNET_WORD_MARK] == UINT64_MAX) {
+        fprintf(stderr, "all counters are spent\n");
+        exit(1);
+    }
+    return arena[CUFFGARNET_WORD_MARK] + 1;
+}
+
+static void list_all(void) {
+    uint64_t out[2 * ROOM], written, more;
+    uint64_t number = cuffgarnet_list(arena, N, CUFFGARNET_OPEN, 0, CUFFGARNET_OPEN, 0, out, 2 * ROOM, &written, &more);
+    say("list all", number, written);
+    for (uint64_t i = 0; i < written; i++)
+        printf("    %llu -> %llu\n", (unsigned long long)out[2 * i], (unsigned long long)out[2 * i + 1]);
+    if (more) printf("    and more\n");
+}
+
+int main(void) {
+    uint64_t number, second, written, more;
+
+    say("format", cuffgarnet_format(arena, N), 0);
+    for (int message = 0; message < 3; message++) {
+        uint64_t counter = next_counter();
+        number = cuffgarnet_put(arena, N, counter, 100 + counter, &second);
+        say("put the next counter", number, second);
+    }
+    memcpy(image, arena, sizeof arena);
+
+    number = cuffgarnet_put(arena, N, 9, 109, &second);
+    say("put 9 -> 109", number, second);
+    number = cuffgarnet_delete(arena, N, 2, &second);
+    say("delete 2", number, second);
+    list_all();
+
+    say("restore", cuffgarnet_restore(arena, N, image, N), 0);
+    list_all();
+    printf("next counter %llu\n", (unsigned long long)next_counter());
+
+    /* one check for all orders of a batch */
+    const uint64_t orders[] = {
+        CUFFGARNET_PUT, 10, 110, /**/ CUFFGARNET_GET, 10, 0, /**/ CUFFGARNET_DELETE, 1, 0, /**/ 7, 0, 0,
+    };
+    uint64_t answers[8];
+    say("batch", cuffgarnet_batch(arena, N, orders, 12, answers, 8), 0);
+    for (int i = 0; i < 4; i++) say("    an order", answers[2 * i], answers[2 * i + 1]);
+
+    /* refusals change nothing */
+    say("a batch of half an order", cuffgarnet_batch(arena, N, orders, 2, answers, 8), 0);
+    second = 77;
+    number = cuffgarnet_get(arena, N - 1, 1, &second);
+    say("get in words of a wrong length", number, second);
+    number = cuffgarnet_list(arena, N, 3, 0, CUFFGARNET_OPEN, 0, answers, 8, &written, &more);
+    say("a bound of kind 3", number, written);
+    number = cuffgarnet_list(arena, N, CUFFGARNET_INCLUDED, 6, CUFFGARNET_INCLUDED, 5, answers, 8, &written, &more);
+    say("from 6 to 5", number, written);
+    say("format 47 words", cuffgarnet_format(image, 47), 0);
+    image[CUFFGARNET_WORD_PAIRS] += 1;
+    say("restore a damaged image", cuffgarnet_restore(arena, N, image, N), 0);
+    say("no words at all", cuffgarnet_check(NULL, 0), 0);
+    return 0;
+}

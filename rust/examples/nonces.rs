@@ -1,0 +1,43 @@
+//! The nonce story. A broker encrypts each message under a counter and keeps counter -> slot in the index. It takes a
+//! snapshot, goes on, and loses its disk: after the restore the saved pairs are back, and the next counter is a fresh one.
+
+use cuffgarnet::{Error, Index};
+
+/// The next counter: above every key that was ever put. `None` once all are spent.
+fn next_counter(index: &Index) -> Result<Option<u64>, Error> {
+    Ok(index.mark()?.map_or(Some(1), |mark| mark.checked_add(1)))
+}
+
+/// Sends a message that lies in a slot: its counter is spent once it is in the index.
+fn send(index: &mut Index, slot: u64) -> Result<u64, Box<dyn std::error::Error>> {
+    let counter = next_counter(index)?.ok_or("all counters are spent")?;
+    index.insert(counter, slot)?;
+    Ok(counter)
+}
+
+fn main() -> Result<(), Box<dyn std::error::Error>> {
+    let mut index = Index::with_nodes(64)?;
+    for slot in [700, 701, 702] {
+        println!("slot {slot} under counter {}", send(&mut index, slot)?);
+    }
+
+    let image = index.snapshot();
+    println!("snapshot of {} pairs, mark {:?}", index.len()?, index.mark()?);
+
+    for slot in [703, 704] {
+        println!("slot {slot} under counter {}", send(&mut index, slot)?);
+    }
+
+    index.restore(&image)?;
+    println!("restored: {} pairs, mark {:?}", index.len()?, index.mark()?);
+    for pair in index.iter() {
+        let (counter, slot) = pair?;
+        println!("    {counter} -> {slot}");
+    }
+
+    // counters 4 and 5 are no longer in the index, and are not used again
+    let counter = send(&mut index, 705)?;
+    println!("slot 705 under counter {counter}");
+    assert!(counter > 5, "a counter is used twice");
+    Ok(())
+}

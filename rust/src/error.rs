@@ -1,0 +1,89 @@
+//! The refusals, and how a call's number becomes a result.
+
+use crate::ffi::Said;
+use std::fmt;
+
+/// Why a call was refused. A refused call has changed no word. Where several would fit, the first of BadSize, BadArena,
+/// BadImage, BadRange, BadOrder, NoRoom is given.
+#[derive(Clone, Copy, Debug, Eq, Hash, PartialEq)]
+#[non_exhaustive]
+pub enum Error {
+    /// 3: the insertion of an absent key lacks nodes.
+    NoRoom,
+    /// 4: the words are not a well-formed arena.
+    BadArena,
+    /// 5: a range whose start is above its end, or equal to it with both excluded.
+    BadRange,
+    /// 6: an order's code is not 1, 2 or 3.
+    BadOrder,
+    /// 7: a number of words that cannot be.
+    BadSize,
+    /// 8: the image is not a well-formed arena.
+    BadImage,
+    /// A number that this version does not know; the library that it is built with gives none.
+    Other(u64),
+}
+
+impl Error {
+    /// The number, as C sees it.
+    ///
+    /// ```
+    /// assert_eq!(cuffgarnet::Error::BadArena.number(), 4);
+    /// ```
+    pub fn number(self) -> u64 {
+        match self {
+            Error::NoRoom => 3,
+            Error::BadArena => 4,
+            Error::BadRange => 5,
+            Error::BadOrder => 6,
+            Error::BadSize => 7,
+            Error::BadImage => 8,
+            Error::Other(number) => number,
+        }
+    }
+
+    fn of(number: u64) -> Self {
+        match number {
+            3 => Error::NoRoom,
+            4 => Error::BadArena,
+            5 => Error::BadRange,
+            6 => Error::BadOrder,
+            7 => Error::BadSize,
+            8 => Error::BadImage,
+            _ => Error::Other(number),
+        }
+    }
+}
+
+impl fmt::Display for Error {
+    fn fmt(&self, f: &mut fmt::Formatter<'_>) -> fmt::Result {
+        match self {
+            Error::NoRoom => f.write_str("no room: the insertion lacks free nodes"),
+            Error::BadArena => f.write_str("the words are not a well-formed arena"),
+            Error::BadRange => f.write_str("the range's start is above its end, or equal to it with both excluded"),
+            Error::BadOrder => f.write_str("the order's code is not 1, 2 or 3"),
+            Error::BadSize => f.write_str("a number of words that cannot be"),
+            Error::BadImage => f.write_str("the image is not a well-formed arena"),
+            Error::Other(number) => write!(f, "refused with the unknown number {number}"),
+        }
+    }
+}
+
+impl std::error::Error for Error {}
+
+/// Of a call that answers 0 or a refusal.
+pub(crate) fn done(number: u64) -> Result<(), Error> {
+    match number {
+        0 => Ok(()),
+        _ => Err(Error::of(number)),
+    }
+}
+
+/// Of a call on one key: 1 comes with a value, 0 (a new key) and 2 (absent) with none.
+pub(crate) fn value(said: Said) -> Result<Option<u64>, Error> {
+    match said.number {
+        0 | 2 => Ok(None),
+        1 => Ok(Some(said.second)),
+        _ => Err(Error::of(said.number)),
+    }
+}

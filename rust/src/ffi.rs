@@ -1,0 +1,110 @@
+//! The exported calls as they are, and safe functions over slices: a slice is never longer than what it lends.
+
+extern "C" {
+    fn cuffgarnet_format(arena: *mut u64, n: u64) -> u64;
+    fn cuffgarnet_check(arena: *const u64, n: u64) -> u64;
+    fn cuffgarnet_get(arena: *const u64, n: u64, key: u64, second: *mut u64) -> u64;
+    fn cuffgarnet_put(arena: *mut u64, n: u64, key: u64, value: u64, second: *mut u64) -> u64;
+    fn cuffgarnet_delete(arena: *mut u64, n: u64, key: u64, second: *mut u64) -> u64;
+    fn cuffgarnet_list(
+        arena: *const u64,
+        n: u64,
+        start_kind: u64,
+        start: u64,
+        end_kind: u64,
+        end: u64,
+        out: *mut u64,
+        out_n: u64,
+        written: *mut u64,
+        more: *mut u64,
+    ) -> u64;
+    fn cuffgarnet_batch(
+        arena: *mut u64,
+        n: u64,
+        orders: *const u64,
+        orders_n: u64,
+        answers: *mut u64,
+        answers_n: u64,
+    ) -> u64;
+    fn cuffgarnet_restore(arena: *mut u64, n: u64, image: *const u64, image_n: u64) -> u64;
+}
+
+/// A call's number and second word.
+pub struct Said {
+    pub number: u64,
+    pub second: u64,
+}
+
+/// A listing's number, how many pairs it wrote, and 1 if more remain.
+pub struct Told {
+    pub number: u64,
+    pub written: u64,
+    pub more: u64,
+}
+
+// SAFETY, of every call below: the pointers and lengths are those of slices and of a local word, so they are aligned and
+// valid for that many words; what is written is lent as `&mut`, so it overlaps nothing else and nobody else touches it.
+// The calls have no `requires`: they take any words and end.
+
+pub fn format(arena: &mut [u64]) -> u64 {
+    unsafe { cuffgarnet_format(arena.as_mut_ptr(), arena.len() as u64) }
+}
+
+pub fn check(arena: &[u64]) -> u64 {
+    unsafe { cuffgarnet_check(arena.as_ptr(), arena.len() as u64) }
+}
+
+pub fn get(arena: &[u64], key: u64) -> Said {
+    let mut second = 0;
+    let number = unsafe { cuffgarnet_get(arena.as_ptr(), arena.len() as u64, key, &mut second) };
+    Said { number, second }
+}
+
+pub fn put(arena: &mut [u64], key: u64, value: u64) -> Said {
+    let mut second = 0;
+    let number = unsafe { cuffgarnet_put(arena.as_mut_ptr(), arena.len() as u64, key, value, &mut second) };
+    Said { number, second }
+}
+
+pub fn delete(arena: &mut [u64], key: u64) -> Said {
+    let mut second = 0;
+    let number = unsafe { cuffgarnet_delete(arena.as_mut_ptr(), arena.len() as u64, key, &mut second) };
+    Said { number, second }
+}
+
+pub fn list(arena: &[u64], start: (u64, u64), end: (u64, u64), out: &mut [u64]) -> Told {
+    let mut written = 0;
+    let mut more = 0;
+    let number = unsafe {
+        cuffgarnet_list(
+            arena.as_ptr(),
+            arena.len() as u64,
+            start.0,
+            start.1,
+            end.0,
+            end.1,
+            out.as_mut_ptr(),
+            out.len() as u64,
+            &mut written,
+            &mut more,
+        )
+    };
+    Told { number, written, more }
+}
+
+pub fn batch(arena: &mut [u64], orders: &[u64], answers: &mut [u64]) -> u64 {
+    unsafe {
+        cuffgarnet_batch(
+            arena.as_mut_ptr(),
+            arena.len() as u64,
+            orders.as_ptr(),
+            orders.len() as u64,
+            answers.as_mut_ptr(),
+            answers.len() as u64,
+        )
+    }
+}
+
+pub fn restore(arena: &mut [u64], image: &[u64]) -> u64 {
+    unsafe { cuffgarnet_restore(arena.as_mut_ptr(), arena.len() as u64, image.as_ptr(), image.len() as u64) }
+}

@@ -1,0 +1,392 @@
+//! An ordered index from 64-bit keys to 64-bit values over words that are owned or borrowed, as a mapped file's are.
+//!
+//! The calls are Rattle code that is proved: for any words, what a call returns and what every word holds when it ends.
+//! This crate links the static library and gives it the names that a user of `BTreeMap` expects. No input makes it panic.
+//!
+//! ```
+//! use cuffgarnet::{Error, Index};
+//!
+//! let mut index = Index::with_nodes(64)?;
+//! assert_eq!(index.insert(5, 50)?, None);
+//! assert_eq!(index.insert(5, 51)?, Some(50));
+//! assert_eq!(index.get(5)?, Some(51));
+//! assert_eq!(index.remove(5)?, Some(51));
+//! assert_eq!(index.get(5)?, None);
+//! assert_eq!(index.mark()?, Some(5)); // a removal never lowers the mark
+//! # Ok::<(), Error>(())
+//! ```
+//!
+//! # What a call costs
+//!
+//! The words may come from anywhere, so **every call but formatting first checks the whole arena**: whatever the key, it
+//! reads each node once, at a few nanoseconds a node that holds pairs and less for a free one. A damaged arena is refused
+//! with [`Error::BadArena`] and never believed. [`Index::apply`] checks once for a whole batch of orders: use it wherever
+//! there is more than one thing to do. docs/SPEED.md in the repository has the figures.
+//!
+//! # Mapped files
+//!
+//! [`Index::open`] takes a `&mut [u64]`. Words of a mapped file are fine as long as nobody else writes to them, or shortens
+//! the file, while the index borrows them; that promise is made where the mapping is turned into a slice.
+//!
+
+#![deny(missing_docs)]
+
+#[cfg(not(all(target_arch = "x86_64", target_os = "linux")))]
+compile_error!("the static library that `rt` writes is for x86-64 Linux");
+
+mod error;
+mod ffi;
+mod order;
+mod range;
+
+pub use error::Error;
+pub use order::{Order, Outcome};
+pub use range::{Listed, Range};
+
+use std::ops::RangeBounds;
+
+/// Words before the first node.
+const HEADER: usize = 10;
+
+/// Words of a node.
+const NODE: usize = 38;
+
+/// Places of the header's words.
+const PAIRS: usize = 5;
+const FREE: usize = 7;
+const SEEN: usize = 8;
+const MARK: usize = 9;
+
+mod sealed {
+    pub trait Sealed {}
+    impl Sealed for Vec<u64> {}
+    impl Sealed for Box<[u64]> {}
+    impl Sealed for &mut [u64] {}
+}
+
+/// Words that an [`Index`] can stand on: owned ones, `Vec<u64>` or `Box<[u64]>`, or a borrowed `&mut [u64]`.
+pub trait Words: sealed::Sealed {
+    /// The words.
+    fn words(&self) -> &[u64];
+    /// The words, to be changed. Their number stays.
+    fn words_mut(&mut self) -> &mut [u64];
+}
+
+impl Words for Vec<u64> {
+    fn words(&self) -> &[u64] {
+        self
+    }
+    fn words_mut(&mut self) -> &mut [u64] {
+        self
+    }
+}
+
+impl Words for Box<[u64]> {
+    fn words(&self) -> &[u64] {
+        self
+    }
+    fn words_mut(&mut self) -> &mut [u64] {
+        self
+    }
+}
+
+impl Words for &mut [u64] {
+    fn words(&self) -> &[u64] {
+        self
+    }
+    fn words_mut(&mut self) -> &mut [u64] {
+        self
+    }
+}
+
+/// How many words an arena of so many nodes has; `None` if there is no such arena (nodes are 1 to 65,535).
+///
+/// ```
+/// assert_eq!(cuffgarnet::words_for(2), Some(86));
+/// assert_eq!(cuffgarnet::words_for(0), None);
+/// assert_eq!(cuffgarnet::words_for(65_536), None);
+/// ```
+pub fn words_for(nodes: usize) -> Option<usize> {
+    if nodes == 0 || nodes > 65_535 {
+        return None;
+    }
+    nodes.checked_mul(NODE)?.checked_add(HEADER)
+}
+
+/// The index. See the [crate's documentation](crate) for what a call costs.
+#[derive(Clone, Debug)]
+pub struct Index<W: Words = Vec<u64>> {
+    words: W,
+}
+
+impl Index {
+    /// An empty index with so many nodes, 1 to 65,535, in words of its own. A node holds up to 11 pairs, and at least 5
+    /// but for the root.
+    ///
+    /// # Errors
+    /// [`Error::BadSize`] for any other number.
+    ///
+    /// ```
+    /// use cuffgarnet::{Error, Index};
+    /// assert!(Index::with_nodes(1).is_ok());
+    /// assert_eq!(Index::with_nodes(0).err(), Some(Error::BadSize));
+    /// ```
+    pub fn with_nodes(nodes: usize) -> Result<Self, Error> {
+        let long = words_for(nodes).ok_or(Error::BadSize)?;
+        Self::format(vec![0; long])
+    }
+}
+
+impl<W: Words> Index<W> {
+    /// Formats words as an empty index, whatever they held. This alone forgets the mark.
+    ///
+    /// # Errors
+    /// [`Error::BadSize`] if their number is not 10 + 38 N for an N of 1 to 65,535. No word has changed then.
+    ///
+    /// ```
+    /// use cuffgarnet::{Error, Index};
+    /// let mut lent = [7; 86];
+    /// let mut index = Index::format(&mut lent[..])?;
+    /// index.insert(1, 10)?;
+    /// assert_eq!(lent[5], 1); // one pair, in the words that were lent
+    /// # Ok::<(), Error>(())
+    /// ```
+    pub fn format(mut words: W) -> Result<Self, Error> {
+        error::done(ffi::format(words.words_mut()))?;
+        Ok(Index { words })
+    }
+
+    /// An index on words that were formatted and filled earlier, as a mapped file's.
+    ///
+    /// # Errors
+    /// [`Error::BadArena`] if they are not a well-formed arena.
+    ///
+    /// ```
+    /// use cuffgarnet::{Error, Index};
+    /// let mut first = Index::with_nodes(8)?;
+    /// first.insert(3, 30)?;
+    /// let mut words = first.into_words();
+    /// assert_eq!(Index::open(&mut words[..])?.get(3)?, Some(30));
+    /// words[20] ^= 1;
+    /// assert_eq!(Index::open(words).err(), Some(Error::BadArena));
+    /// # Ok::<(), Error>(())
+    /// ```
+    pub fn open(words: W) -> Result<Self, Error> {
+        error::done(ffi::check(words.words()))?;
+        Ok(Index { words })
+    }
+
+    /// Whether the words are a well-formed arena. Every other call does this by itself.
+    ///
+    /// # Errors
+    /// [`Error::BadArena`] if they are not.
+    pub fn check(&self) -> Result<(), Error> {
+        error::done(ffi::check(self.words.words()))
+    }
+
+    /// The value of a key.
+    ///
+    /// # Errors
+    /// [`Error::BadArena`].
+    pub fn get(&self, key: u64) -> Result<Option<u64>, Error> {
+        error::value(ffi::get(self.words.words(), key))
+    }
+
+    /// Whether a key is present.
+    ///
+    /// # Errors
+    /// [`Error::BadArena`].
+    pub fn contains_key(&self, key: u64) -> Result<bool, Error> {
+        Ok(self.get(key)?.is_some())
+    }
+
+    /// Puts a pair, and hands out the value that the key had before. The mark is then at least the key.
+    ///
+    /// # Errors
+    /// [`Error::NoRoom`] if the key is absent and there are not enough free nodes, [`Error::BadArena`]. No word has
+    /// changed then.
+    ///
+    /// ```
+    /// use cuffgarnet::{Error, Index};
+    /// let mut index = Index::with_nodes(1)?;
+    /// for key in 1..=11 {
+    ///     index.insert(key, 0)?;
+    /// }
+    /// assert_eq!(index.insert(12, 0), Err(Error::NoRoom));
+    /// assert_eq!(index.insert(11, 1), Ok(Some(0)));
+    /// assert_eq!(index.mark()?, Some(11));
+    /// # Ok::<(), Error>(())
+    /// ```
+    pub fn insert(&mut self, key: u64, value: u64) -> Result<Option<u64>, Error> {
+        error::value(ffi::put(self.words.words_mut(), key, value))
+    }
+
+    /// Takes a pair out, and hands out its value. The mark stays.
+    ///
+    /// # Errors
+    /// [`Error::BadArena`].
+    pub fn remove(&mut self, key: u64) -> Result<Option<u64>, Error> {
+        error::value(ffi::delete(self.words.words_mut(), key))
+    }
+
+    /// Writes the first pairs of a range into `out`, key then value, in rising order, as many as half its length; further
+    /// words of it stay. Says how many pairs were written, and whether more of the range remain.
+    ///
+    /// # Errors
+    /// [`Error::BadRange`] where `BTreeMap::range` panics: start above end, or equal and both excluded;
+    /// [`Error::BadArena`]. Nothing is written then.
+    ///
+    /// ```
+    /// use cuffgarnet::{Error, Index};
+    /// let mut index = Index::with_nodes(4)?;
+    /// for key in [10, 20, 30] {
+    ///     index.insert(key, key + 1)?;
+    /// }
+    /// let mut out = [0; 4];
+    /// let listed = index.range_into(15.., &mut out)?;
+    /// assert_eq!((listed.written, listed.more, out), (2, false, [20, 21, 30, 31]));
+    /// assert_eq!(index.range_into(.., &mut out)?.more, true);
+    /// assert_eq!(index.range_into(6..=5, &mut out), Err(Error::BadRange));
+    /// # Ok::<(), Error>(())
+    /// ```
+    pub fn range_into(&self, range: impl RangeBounds<u64>, out: &mut [u64]) -> Result<Listed, Error> {
+        range::list(self.words.words(), range.start_bound().cloned(), range.end_bound().cloned(), out)
+    }
+
+    /// The pairs of a range in rising order. They are listed by pages of 1,024, and each page costs a check of the arena.
+    /// An error is an item, the last one.
+    ///
+    /// ```
+    /// use cuffgarnet::{Error, Index};
+    /// let mut index = Index::with_nodes(4)?;
+    /// for key in [10, 20, 30] {
+    ///     index.insert(key, key + 1)?;
+    /// }
+    /// let pairs: Result<Vec<_>, Error> = index.range(..=20).collect();
+    /// assert_eq!(pairs?, [(10, 11), (20, 21)]);
+    /// assert_eq!(index.range(6..=5).next(), Some(Err(Error::BadRange)));
+    /// # Ok::<(), Error>(())
+    /// ```
+    pub fn range(&self, range: impl RangeBounds<u64>) -> Range<'_> {
+        Range::new(self.words.words(), range.start_bound().cloned(), range.end_bound().cloned())
+    }
+
+    /// All pairs in rising order; as [`range`](Self::range) of everything.
+    pub fn iter(&self) -> Range<'_> {
+        self.range(..)
+    }
+
+    /// Runs orders in turn behind one check of the arena, each as the single call would. A refused order does not stop
+    /// the rest: its outcome is its error.
+    ///
+    /// # Errors
+    /// [`Error::BadArena`], and no order has run.
+    ///
+    /// ```
+    /// use cuffgarnet::{Error, Index, Order};
+    /// let mut index = Index::with_nodes(4)?;
+    /// let said = index.apply(&[Order::Insert(1, 10), Order::Get(1), Order::Remove(1), Order::Get(1)])?;
+    /// assert_eq!(said, [Ok(None), Ok(Some(10)), Ok(Some(10)), Ok(None)]);
+    /// # Ok::<(), Error>(())
+    /// ```
+    pub fn apply(&mut self, orders: &[Order]) -> Result<Vec<Outcome>, Error> {
+        order::apply(self.words.words_mut(), orders)
+    }
+
+    /// The same on plain words and with no allocation: an order is code (1 put, 2 get, 3 delete), key and value; its
+    /// answer is a number and a second word.
+    ///
+    /// # Errors
+    /// [`Error::BadSize`] if the orders are not whole triples or the answers not exactly two words an order;
+    /// [`Error::BadArena`]. No order has run and no answer is written then.
+    ///
+    /// ```
+    /// use cuffgarnet::{Error, Index};
+    /// let mut index = Index::with_nodes(4)?;
+    /// let mut answers = [0; 6];
+    /// index.apply_words(&[1, 5, 50, 2, 5, 0, 9, 0, 0], &mut answers)?;
+    /// assert_eq!(answers, [0, 0, 1, 50, 6, 0]);
+    /// assert_eq!(index.apply_words(&[1, 5], &mut answers), Err(Error::BadSize));
+    /// # Ok::<(), Error>(())
+    /// ```
+    pub fn apply_words(&mut self, orders: &[u64], answers: &mut [u64]) -> Result<(), Error> {
+        error::done(ffi::batch(self.words.words_mut(), orders, answers))
+    }
+
+    /// A copy of all words, for [`restore`](Self::restore) or a file.
+    pub fn snapshot(&self) -> Vec<u64> {
+        self.words.words().to_vec()
+    }
+
+    /// Brings the pairs of a snapshot back. The mark becomes the larger of the two: a key that was ever put stays spent.
+    ///
+    /// # Errors
+    /// [`Error::BadSize`] if the image is not as long as this index, [`Error::BadArena`], [`Error::BadImage`] if the
+    /// image is not a well-formed arena. No word has changed then.
+    ///
+    /// ```
+    /// use cuffgarnet::{Error, Index};
+    /// let mut index = Index::with_nodes(4)?;
+    /// index.insert(9, 0)?;
+    /// let image = index.snapshot();
+    /// index.insert(12, 0)?;
+    /// index.restore(&image)?;
+    /// assert_eq!(index.get(12)?, None);
+    /// assert_eq!(index.mark()?, Some(12));
+    /// # Ok::<(), Error>(())
+    /// ```
+    pub fn restore(&mut self, image: &[u64]) -> Result<(), Error> {
+        error::done(ffi::restore(self.words.words_mut(), image))
+    }
+
+    /// A header word, once the arena is checked.
+    fn header(&self, at: usize) -> Result<u64, Error> {
+        self.check()?;
+        self.words.words().get(at).copied().ok_or(Error::BadArena)
+    }
+
+    /// How many pairs there are.
+    ///
+    /// # Errors
+    /// [`Error::BadArena`].
+    pub fn len(&self) -> Result<usize, Error> {
+        Ok(self.header(PAIRS)? as usize)
+    }
+
+    /// Whether there is no pair.
+    ///
+    /// # Errors
+    /// [`Error::BadArena`].
+    pub fn is_empty(&self) -> Result<bool, Error> {
+        Ok(self.len()? == 0)
+    }
+
+    /// How many nodes are free. An insertion of a new key takes one for each full node on its way up from the leaf, and
+    /// one more if that includes the root.
+    ///
+    /// # Errors
+    /// [`Error::BadArena`].
+    pub fn free_nodes(&self) -> Result<usize, Error> {
+        Ok(self.header(FREE)? as usize)
+    }
+
+    /// The largest key that was ever put, present or not; `None` if none was. No call but formatting lowers it.
+    ///
+    /// # Errors
+    /// [`Error::BadArena`].
+    pub fn mark(&self) -> Result<Option<u64>, Error> {
+        let seen = self.header(SEEN)?;
+        let mark = self.words.words().get(MARK).copied().ok_or(Error::BadArena)?;
+        Ok((seen == 1).then_some(mark))
+    }
+
+    /// The words as they stand.
+    pub fn words(&self) -> &[u64] {
+        self.words.words()
+    }
+
+    /// Gives the words back.
+    pub fn into_words(self) -> W {
+        self.words
+    }
+}
