@@ -190,6 +190,32 @@ impl<'s> Map<'s> {
         })
     }
 
+    /// Of each leaf edge, by node and place: the pair after it and the pair before it, if any, by node and place.
+    pub fn neighbours(&self) -> Vec<((u64, u64), Option<(u64, u64)>, Option<(u64, u64)>)> {
+        fn visit<'a>(map: &'a Map<'_>, node: Node<'a>, out: &mut Vec<((u64, u64), Option<(u64, u64)>, Option<(u64, u64)>)>) {
+            match node.force() {
+                Leaf(leaf) => {
+                    for i in 0..=leaf.len() {
+                        let edge = unsafe { Handle::new_edge(leaf, i) };
+                        let next = edge.next_kv().ok().map(|kv| (map.number(kv.into_node()), kv.idx() as u64));
+                        let back = edge.next_back_kv().ok().map(|kv| (map.number(kv.into_node()), kv.idx() as u64));
+                        out.push(((map.number(node), i as u64), next, back));
+                    }
+                }
+                Internal(internal) => {
+                    for i in 0..=internal.len() {
+                        visit(map, unsafe { Handle::new_edge(internal, i) }.descend(), out);
+                    }
+                }
+            }
+        }
+        let mut out = Vec::new();
+        if let Some(top) = self.top() {
+            visit(self, top, &mut out);
+        }
+        out
+    }
+
     pub fn fix_right_border(&mut self) {
         let alloc = self.slab.alloc();
         if let Some(root) = &mut self.root {

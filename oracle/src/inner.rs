@@ -1,4 +1,4 @@
-//! Border repairs and forks: inner parts of our index, which its library does not export. faults.py makes a library that does, with no proof.
+//! Border repairs, forks and steps along pairs: inner parts of our index, which its library does not export. faults.py makes a library that does, with no proof.
 
 use crate::btree::{Fork, Map};
 use crate::pair::Totals;
@@ -12,6 +12,7 @@ unsafe extern "C" {
     fn inner_fix_right(arena: *mut u64, n: u64) -> u64;
     fn inner_fix_left(arena: *mut u64, n: u64) -> u64;
     fn inner_fork(arena: *const u64, n: u64, start_kind: u64, start: u64, end_kind: u64, end: u64, out: *mut u64, out_n: u64) -> u64;
+    fn inner_step(arena: *const u64, n: u64, node: u64, at: u64, back: u64, out: *mut u64, out_n: u64) -> u64;
 }
 
 pub fn all(totals: &mut Totals, scale: u64) -> Result<(), String> {
@@ -19,7 +20,8 @@ pub fn all(totals: &mut Totals, scale: u64) -> Result<(), String> {
     for right in [true, false] {
         borders(totals, right, scale, &mut random)?;
     }
-    forks(totals, scale, &mut random)
+    forks(totals, scale, &mut random)?;
+    steps(totals, &mut random)
 }
 
 /// One repair on both sides: all words after it.
@@ -108,10 +110,9 @@ fn borders(totals: &mut Totals, right: bool, scale: u64, random: &mut Random) ->
     Ok(())
 }
 
-/// Every good range over small trees.
-fn forks(totals: &mut Totals, scale: u64, random: &mut Random) -> Result<(), String> {
+fn small_trees() -> [Plan; 7] {
     let leaves = |row: &[usize]| Plan::Inner(row.iter().map(|n| Plan::Leaf(*n)).collect());
-    for plan in [
+    [
         Plan::Leaf(0),
         Plan::Leaf(1),
         Plan::Leaf(11),
@@ -119,7 +120,34 @@ fn forks(totals: &mut Totals, scale: u64, random: &mut Random) -> Result<(), Str
         leaves(&[11, 7]),
         leaves(&[5, 11, 6]),
         Plan::Inner(vec![leaves(&[5, 6, 5, 7, 5, 5]), leaves(&[5, 5, 8, 5, 5, 11])]),
-    ] {
+    ]
+}
+
+/// The pairs on both sides of every leaf edge.
+fn steps(totals: &mut Totals, random: &mut Random) -> Result<(), String> {
+    let tall = (0..2).map(|_| ragged(true, 3, false, random));
+    for plan in small_trees().into_iter().chain(tall.collect::<Vec<_>>()) {
+        let w = plan.words(1, random);
+        let slab = Slab::new(w[1] as usize);
+        for ((node, at), next, before) in Map::from_words(&slab, &w)?.neighbours() {
+            for (back, rust) in [(0, next), (1, before)] {
+                let mut out = [9; 2];
+                // SAFETY: the words are a well-formed arena, and this is a leaf edge of it
+                let many = unsafe { inner_step(w.as_ptr(), w.len() as u64, node, at, back, out.as_mut_ptr(), 2) };
+                let ours = (many == 2).then_some((out[0], out[1]));
+                totals.steps += 1;
+                if ours != rust {
+                    return Err(format!("the pair beside edge {at} of leaf {node}, back {back}, of {w:?}: ours {ours:?}, the Rust {rust:?}"));
+                }
+            }
+        }
+    }
+    Ok(())
+}
+
+/// Every good range over small trees.
+fn forks(totals: &mut Totals, scale: u64, random: &mut Random) -> Result<(), String> {
+    for plan in small_trees() {
         let w = plan.words(1, random);
         let slab = Slab::new(w[1] as usize);
         let map = Map::from_words(&slab, &w)?;

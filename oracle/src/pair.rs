@@ -18,7 +18,7 @@ pub enum Fault {
     Kept,
     /// After an order the first two free nodes change places; the words stay well-formed.
     Chain,
-    /// After an order that split a node its two halves hold one pair more and one less, where that is well-formed.
+    /// After an order one pair moves from one leaf to the next, where that stays well-formed: as if a split had been made elsewhere.
     Halves,
     /// A listing leaves out that more remain.
     More,
@@ -64,9 +64,10 @@ pub struct Totals {
     /// Calls on words of wrong length or that may be no arena, and how many such words were none.
     pub refusals: u64,
     pub refused_arenas: u64,
-    /// Border repairs and forks, where they can be called.
+    /// Border repairs, forks and steps along pairs, where they can be called.
     pub borders: u64,
     pub forks: u64,
+    pub steps: u64,
     pub heights: BTreeMap<u64, u64>,
     turns: u64,
 }
@@ -85,7 +86,7 @@ impl fmt::Display for Totals {
         writeln!(f, "restores {}", self.restores)?;
         writeln!(f, "lengths and damaged arenas asked {}, of them no arenas {}", self.refusals, self.refused_arenas)?;
         if cfg!(inner) {
-            writeln!(f, "border repairs {}, forks {}", self.borders, self.forks)?;
+            writeln!(f, "border repairs {}, forks {}, steps along pairs {}", self.borders, self.forks, self.steps)?;
         }
         writeln!(f, "arenas compared {}, words compared {}", self.compares, self.words)?;
         write!(f, "  by height:")?;
@@ -156,8 +157,7 @@ impl<'s> Pair<'s> {
         }
     }
 
-    /// Moves one pair through the root from its first child to its second, if both are leaves and may: what a split at another place would
-    /// have left.
+    /// Moves one pair through the root from its first child to its second, if both are leaves and may.
     fn move_one(&mut self) {
         let a = &mut self.ours;
         let base = |n: u64| words::HEADER + words::WORDS * n as usize;

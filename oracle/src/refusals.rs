@@ -55,16 +55,39 @@ fn sizes(totals: &mut Totals) -> Result<(), String> {
             }
         }
     }
-    for (long, arena_bad, image_bad, wanted) in [(86, false, false, 0), (85, true, true, 7), (86, true, true, 4), (86, false, true, 8), (48, false, false, 7)] {
+    for (long, arena_bad, image_bad, wanted) in [
+        (86, false, false, 0),
+        (85, true, true, 7),
+        (86, true, true, 4),
+        (86, false, true, 8),
+        (48, false, false, 7),
+        (87, false, false, 7),
+        (124, false, false, 7),
+    ] {
         let (mut w, mut image) = (whole.clone(), whole.clone());
         w[7] += u64::from(arena_bad);
         image[7] += u64::from(image_bad);
-        image.truncate(long);
+        image.resize(long, 0);
         let (before, kept) = (w.clone(), image.clone());
         let number = ours::restore(&mut w, &image);
         totals.refusals += 1;
         if number != wanted || w != before || image != kept {
             return Err(format!("restore of {long} words: {number}, not {wanted}"));
+        }
+    }
+    // seen if either was, and the larger of the marks
+    let marks = [(0, 0), (1, 0), (1, 5), (1, u64::MAX)];
+    for (ours_marked, image_marked) in marks.into_iter().flat_map(|a| marks.map(|b| (a, b))) {
+        let (mut w, mut image) = (whole.clone(), whole.clone());
+        (w[words::SEEN], w[words::MARK]) = ours_marked;
+        (image[words::SEEN], image[words::MARK]) = image_marked;
+        let number = ours::restore(&mut w, &image);
+        let mut wanted = image.clone();
+        wanted[words::SEEN] = ours_marked.0.max(image_marked.0);
+        wanted[words::MARK] = ours_marked.1.max(image_marked.1);
+        totals.restores += 1;
+        if number != 0 || w != wanted {
+            return Err(format!("restore of mark {image_marked:?} over {ours_marked:?}: {number}, {:?}", &w[..10]));
         }
     }
     Ok(())
@@ -83,7 +106,7 @@ fn damages(totals: &mut Totals, whole: &[u64]) -> Result<(), String> {
     Ok(())
 }
 
-/// Two words of a leaf or an inner node too few, counted truly; an inner root with no pair.
+/// A leaf or an inner node with too few pairs, counted truly; an inner root with no pair; a node that is nowhere.
 fn short(totals: &mut Totals) -> Result<(), String> {
     let mut random = Random::new(6);
     let leaves = |row: &[usize]| Plan::Inner(row.iter().map(|n| Plan::Leaf(*n)).collect());
@@ -99,6 +122,22 @@ fn short(totals: &mut Totals) -> Result<(), String> {
     ] {
         let w = plan.words(1, &mut random);
         one(totals, &w, &w).map_err(|why| format!("{w:?}: {why}"))?;
+    }
+    // the first free node is left out of the chain, and of the count
+    let whole = leaves(&[5, 6]).words(3, &mut random);
+    let mut w = whole.clone();
+    let first = words::HEADER + words::WORDS * w[words::FIRST_FREE] as usize + words::PARENT;
+    w[words::FIRST_FREE] = std::mem::take(&mut w[first]);
+    w[words::FREE_NODES] -= 1;
+    one(totals, &w, &whole).map_err(|why| format!("{w:?}: {why}"))?;
+    // kinds of bound that are none, on a good arena
+    for (start, end) in [((3, 0), (0, 0)), ((0, 0), (3, 9)), ((u64::MAX, 1), (1, 5)), ((1, 1), (4, 5))] {
+        let mut out = [9; 8];
+        let said = ours::list(&whole, start, end, &mut out);
+        totals.refusals += 1;
+        if said != (5, 0, 0) || out != [9; 8] {
+            return Err(format!("a listing from {start:?} to {end:?} says {said:?}"));
+        }
     }
     Ok(())
 }

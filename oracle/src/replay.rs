@@ -91,10 +91,8 @@ pub fn sample() -> Vec<[u64; 3]> {
         let mut source = Source::new(kind, NODES, 7000 + i as u64);
         for turn in 0..5000 {
             let order = source.order(&rust);
-            // codes that are none of an order's are the records' own here, but for these
-            let code = if (1..=3).contains(&order[0]) { order[0] } else { order[0] | 1 << 40 };
-            rust.order([code, order[1], order[2]]);
-            all.push([code, order[1], order[2]]);
+            rust.order(order);
+            all.push(order);
             if turn % 12 == 5 && !rust.map.is_rootless() {
                 let ((s, start), (e, finish)) = source.range(&rust);
                 all.push([LISTING + 4 * s + e, start, finish]);
