@@ -176,13 +176,9 @@ impl<'s> Map<'s> {
         let range = (start, end);
         let found = catch_unwind(AssertUnwindSafe(|| top.search_tree_for_bifurcation::<u64, _>(&range))).ok()?;
         Some(match found {
-            Ok((node, lower, upper, start, end)) => Fork::Parted {
-                node: self.number(node),
-                lower: lower as u64,
-                upper: upper as u64,
-                start: kind(start),
-                end: kind(end),
-            },
+            Ok((node, lower, upper, start, end)) => {
+                Fork::Parted { node: self.number(node), lower: lower as u64, upper: upper as u64, start: kind(start), end: kind(end) }
+            }
             Err(edge) => {
                 let at = edge.idx() as u64;
                 Fork::Together { node: self.number(edge.into_node().forget_type()), at }

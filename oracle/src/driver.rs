@@ -1,5 +1,5 @@
-//! The same histories to the Rust and to our index: answers, all words (so node shapes, node numbers, free chain and mark), ranges. It stops
-//! at the first difference that docs/DIFFERENCES.md does not list, and ends with a summary. README.md says how it is built.
+//! The same histories to the Rust and to our index: answers, all words (so node shapes, node numbers, free chain and mark), ranges. It
+//! stops at the first difference that docs/DIFFERENCES.md does not list, and ends with a summary. README.md says how it is built.
 //!   driver [--scale PERCENT] [--fault NAME]
 
 #![feature(allocator_api, btreemap_alloc, core_intrinsics, min_specialization)]

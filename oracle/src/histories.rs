@@ -30,7 +30,16 @@ fn one_range(totals: &mut Totals, pair: &mut Pair<'_>, source: &mut Source) -> R
 
 /// A history of batches, all words compared after each; now and then an image is kept, and restored later.
 #[allow(clippy::too_many_arguments)]
-fn batches(totals: &mut Totals, fault: Option<Fault>, kind: Kind, count: usize, seed: u64, orders: u64, batch: usize, restores: bool) -> Result<(), String> {
+fn batches(
+    totals: &mut Totals,
+    fault: Option<Fault>,
+    kind: Kind,
+    count: usize,
+    seed: u64,
+    orders: u64,
+    batch: usize,
+    restores: bool,
+) -> Result<(), String> {
     let (slab, other) = (Slab::new(count), Slab::beside(count));
     let mut pair = Pair::new(&slab, &other, fault)?;
     let mut source = Source::new(kind, count, seed);

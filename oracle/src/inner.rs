@@ -1,4 +1,5 @@
-//! Border repairs, forks and steps along pairs: inner parts of our index, which its library does not export. faults.py makes a library that does, with no proof.
+//! Border repairs, forks and steps along pairs: inner parts of our index, which its library does not export. faults.py makes a library that
+//! does, with no proof.
 
 use crate::btree::{Fork, Map};
 use crate::pair::Totals;
@@ -137,7 +138,9 @@ fn steps(totals: &mut Totals, random: &mut Random) -> Result<(), String> {
                 let ours = (many == 2).then_some((out[0], out[1]));
                 totals.steps += 1;
                 if ours != rust {
-                    return Err(format!("the pair beside edge {at} of leaf {node}, back {back}, of {w:?}: ours {ours:?}, the Rust {rust:?}"));
+                    return Err(format!(
+                        "the pair beside edge {at} of leaf {node}, back {back}, of {w:?}: ours {ours:?}, the Rust {rust:?}"
+                    ));
                 }
             }
         }

@@ -74,7 +74,11 @@ pub struct Totals {
 
 impl fmt::Display for Totals {
     fn fmt(&self, f: &mut fmt::Formatter<'_>) -> fmt::Result {
-        writeln!(f, "orders {}, of them in {} batches; {} histories, {} arenas laid out", self.orders, self.batches, self.histories, self.built)?;
+        writeln!(
+            f,
+            "orders {}, of them in {} batches; {} histories, {} arenas laid out",
+            self.orders, self.batches, self.histories, self.built
+        )?;
         for ((code, number), count) in &self.answers {
             let code = ["other code", "put", "get", "delete"][*code as usize];
             let number = ["new", "value", "absent", "no room", "?", "?", "bad order"][*number as usize];

@@ -1,5 +1,5 @@
-//! What the Rust has no counterpart of: document 01's refusals, held against that document read anew in words.rs. Words are damaged one at a
-//! time, and every call must say so exactly where they are then no arena; no refused call may change a lent word.
+//! What the Rust has no counterpart of: document 01's refusals, held against that document read anew in words.rs. Words are damaged one at
+//! a time, and every call must say so exactly where they are then no arena; no refused call may change a lent word.
 
 use crate::ours;
 use crate::pair::Totals;
@@ -48,7 +48,13 @@ fn sizes(totals: &mut Totals) -> Result<(), String> {
             let (asked, mut said) = (vec![2; orders], vec![7; answers]);
             let number = ours::raw_batch(&mut w, &asked, &mut said);
             // the length comes before the arena
-            let wanted = if !good { 7 } else if damaged { 4 } else { 0 };
+            let wanted = if !good {
+                7
+            } else if damaged {
+                4
+            } else {
+                0
+            };
             totals.refusals += 1;
             if number != wanted || w != before || (wanted != 0 && said.iter().any(|x| *x != 7)) {
                 return Err(format!("a batch of {orders} words with {answers} for answers, damaged {damaged}: {number}"));
