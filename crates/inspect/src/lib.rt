@@ -48,14 +48,13 @@ fn zeros(a: &[u64], n: NodeNo, from: usize, to: usize) -> bool
     ensures { λ r. ⌜ Decides r (Zeros (now (a .entry)) (n .0) from to) ⌝ }
 {
     let b = node_base(n);
+    let mut all = 0;
     let mut k = from;
     while k < to {
-        if a[b + k] != 0 {
-            return false;
-        }
+        all = all | a[b + k];
         k += 1;
     }
-    true
+    all == 0
 }
 
 // The state of a node with so many levels below it.
