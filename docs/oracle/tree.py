@@ -1,4 +1,4 @@
-# A plain B-tree of nodes written from document 01's rules for insertion, removal and repair: what fills.py and empties.py run.
+# A plain B-tree of nodes written from document 01's rules for insertion, removal and repair: what fills.py, empties.py and borders.py run.
 MOST, LEAST, NONE = 11, 5, 2**32 - 1
 
 
@@ -120,14 +120,28 @@ class Tree:
             return
         p, i = self.nodes[ns[-2]], at[-2]
         k = i - 1 if i > 0 else i
-        l, r = self.nodes[p.edges[k]], self.nodes[p.edges[k + 1]]
-        if len(l.keys) + 1 + len(r.keys) <= MOST:
-            l.keys += [p.keys.pop(k)] + r.keys
-            l.vals += [p.vals.pop(k)] + r.vals
-            l.edges += r.edges
-            self.give(p.edges.pop(k + 1))
+        if self.merges(p, k):
+            self.merge(p, k)
             self.repair(ns[:-1], at[:-1])
-        elif i > 0:
+        else:
+            self.move(p, k, i > 0)
+
+    # The children left and right of the pair k of a node fit into one.
+    def merges(self, p, k):
+        return len(self.nodes[p.edges[k]].keys) + 1 + len(self.nodes[p.edges[k + 1]].keys) <= MOST
+
+    # They become one: the left is kept, the right returned.
+    def merge(self, p, k):
+        l, r = self.nodes[p.edges[k]], self.nodes[p.edges[k + 1]]
+        l.keys += [p.keys.pop(k)] + r.keys
+        l.vals += [p.vals.pop(k)] + r.vals
+        l.edges += r.edges
+        self.give(p.edges.pop(k + 1))
+
+    # One pair moves through the parent, to the right or to the left.
+    def move(self, p, k, right):
+        l, r = self.nodes[p.edges[k]], self.nodes[p.edges[k + 1]]
+        if right:
             r.keys.insert(0, p.keys[k])
             r.vals.insert(0, p.vals[k])
             p.keys[k], p.vals[k] = l.keys.pop(), l.vals.pop()
@@ -139,6 +153,31 @@ class Tree:
             p.keys[k], p.vals[k] = r.keys.pop(0), r.vals.pop(0)
             if not l.leaf:
                 l.edges.append(r.edges.pop(0))
+
+    # The repair of the right or the left border: empty tops are dropped, then the border is gone down, then empty tops are dropped again.
+    def fix_border(self, right):
+        self.drop_tops()
+        node = self.nodes[self.root]
+        while not node.leaf:
+            node = self.fix_child(node, right)
+        self.drop_tops()
+
+    def drop_tops(self):
+        while self.height > 0 and not self.nodes[self.root].keys:
+            top = self.root
+            self.root, self.height = self.nodes[top].edges[0], self.height - 1
+            self.give(top)
+
+    # The border child is merged with its sibling where 11 allows, else stocked to 6 if it holds fewer.
+    def fix_child(self, p, right):
+        k = len(p.keys) - 1 if right else 0
+        if self.merges(p, k):
+            self.merge(p, k)
+            return self.nodes[p.edges[k]]
+        child = self.nodes[p.edges[k + 1 if right else k]]
+        while len(child.keys) < LEAST + 1:
+            self.move(p, k, right)
+        return child
 
     def give(self, n):
         del self.nodes[n]

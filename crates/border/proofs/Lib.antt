@@ -3,3 +3,4 @@
 pub mod Tops
 pub mod Sides
 pub mod Mended
+pub mod Entry

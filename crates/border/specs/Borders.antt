@@ -72,6 +72,10 @@ pub record DescendsIn (s : Side) (w : List ℕ) (node : ℕ) : Type 0 where
   pub end : Grown
   pub coming : Descending s w rest node (suc height) end
 
+-- the words w, whatever tree they are, become w′, that tree repaired
+abbrev pub Repairs : Side → List ℕ → List ℕ → Type 0
+Repairs s w w′ = (g : Rest) (t : Grown) → Rooted w g t → Rooted w′ g (border s t)
+
 -- ---- what the repair is for: a state that is sound but for its sizes, where the only short nodes lie on the border
 
 pub record Bordering (s : Side) (st : State) : Type 0 where

@@ -16,7 +16,7 @@ ghost use Prim.Native.Nat.{ℕ, suc};
 ghost use Rattle.model.specs.Insert.{left, right};
 ghost use Rattle.model.specs.Nodes.{Grown};
 ghost use Rattle.standing.specs.Heads.{Rest};
-ghost use Rattle.border.specs.Borders.{Rooted, RootedIn, Topped, ToppedIn, Descending, DescendsIn, tops, down, border};
+ghost use Rattle.border.specs.Borders.{Rooted, RootedIn, Topped, ToppedIn, Descending, DescendsIn, Repairs, tops, down};
 
 // Drops empty tops, down to a leaf.
 pub fn fix_top(a: &mut [u64])
@@ -99,7 +99,7 @@ fn fix_left_border_of_left_edge(a: &mut [u64])
 // Repairs a tree whose only short nodes lie on its right border.
 pub fn fix_right_border(a: &mut [u64])
     requires { ⌜ RootedIn (now a) ⌝ }
-    ensures { λ _. ⌜ ((g : Rest) (t : Grown) → Rooted (now (a .entry)) g t → Rooted (now (a .exit)) g (border right t)) ⌝ }
+    ensures { λ _. ⌜ Repairs right (now (a .entry)) (now (a .exit)) ⌝ }
 {
     fix_top(a);
     fix_right_border_of_right_edge(a);
@@ -109,7 +109,7 @@ pub fn fix_right_border(a: &mut [u64])
 // The same of its left border.
 pub fn fix_left_border(a: &mut [u64])
     requires { ⌜ RootedIn (now a) ⌝ }
-    ensures { λ _. ⌜ ((g : Rest) (t : Grown) → Rooted (now (a .entry)) g t → Rooted (now (a .exit)) g (border left t)) ⌝ }
+    ensures { λ _. ⌜ Repairs left (now (a .entry)) (now (a .exit)) ⌝ }
 {
     fix_top(a);
     fix_left_border_of_left_edge(a);

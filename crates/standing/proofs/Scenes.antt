@@ -1,4 +1,4 @@
--- A tree that stands in the nodes, seen whole and from any hole; and the words of a sound state.
+-- A tree that stands in the nodes, seen whole and from any hole; and the words of a state.
 -- Assumes nothing.
 use mathlib.Core.Path.{_≡_, refl, sym, ap, _∙_, subst}
 use mathlib.Core.Bool.{Bool, true, false, cond}
@@ -20,7 +20,7 @@ use Rattle.model.specs.Promise.{Holds}
 use Rattle.model.proofs.Lists.{all-append, all-left, all-right}
 use Rattle.model.proofs.Plug.{has-fill}
 use Rattle.model.proofs.Sizes.{fill-parts, parts-fill}
-use Rattle.model.proofs.Held.{Written, Held, held-of, held-words, each-node}
+use Rattle.model.proofs.Held.{Written, Held, Laid, laid-held, laid-node, sound-laid, held-words}
 use Rattle.store.specs.Links.{Body, Link, bodyOf, linkOf}
 use Rattle.standing.specs.Kept.{Child, Links}
 use Rattle.standing.specs.Standing.{numbered, content, contentOf, Stands, Way, rootOf, atRoot, Hole, Closed}
@@ -145,55 +145,58 @@ module _ (ns : List NodeVal) where
   chain-linked [] = tt
   chain-linked (n ∷ free) = ((λ j l. absurd (not-suc-le-zero l)), chain-linked free)
 
--- ---- the words of a sound state
+-- ---- the words of a state
 
-module _ {w : List ℕ} {s : State} (o : Holds w s) where
-  held : Held w (headerOf s) (nodesIn s) s
-  held = rw (o .words) (held-of (o .sound))
+module _ {s : State} (o : Laid s) where
+  abbrev held : Held (wordsOf s) (headerOf s) (nodesIn s) s
+  held = laid-held o
 
   state-links : Links (nodesIn s)
   state-links q j l = go (decLt q (s .size))
     where
       go : Dec (q < s .size) → Child (nodesIn s) q j (getD (nth (nodesIn s) q .edges) j 0)
       go (yes h) =
-          each-node (o .sound) (λ n v. (j : ℕ) → j < length (v .edges) → Child (nodesIn s) n j (getD (v .edges) j 0))
+          laid-node o (λ n v. (j : ℕ) → j < length (v .edges) → Child (nodesIn s) n j (getD (v .edges) j 0))
           (all-append (Linked (nodesIn s)) (blocks (s .whole .height) none 0 (s .whole .root)) (chainBlocks (s .free))
           (all-linked (nodesIn s) (s .whole .height) none 0 (s .whole .root) (all-left (Written (nodesIn s)) (blocks (s .whole .height) none 0 (s .whole .root)) (chainBlocks (s .free)) (held .nodes))) (chain-linked (nodesIn s) (s .free))) q h j l
       go (no d) = absurd (omega (arith, ap (λ (v : NodeVal). length (v .edges)) (past (nodesIn s) q (omega (arith, held .many)))))
 
   -- the state's tree stands in its nodes
-  pub closed-of : Closed (nodesIn s) (s .whole) (s .free)
-  closed-of =
+  pub laid-closed : Closed (nodesIn s) (s .whole) (s .free)
+  laid-closed =
       let a = held .nodes in
       let t = all-left (Written (nodesIn s)) (blocks (s .whole .height) none 0 (s .whole .root)) (chainBlocks (s .free)) a in
       record {
-        few = omega (arith, held .many, o .sound .few);
+        few = omega (arith, held .many, o .few);
         way = tt;
         tree = stands-of (nodesIn s) (s .whole .height) none 0 (s .whole .root) t;
         chain = all-right (Written (nodesIn s)) (blocks (s .whole .height) none 0 (s .whole .root)) (chainBlocks (s .free)) a;
         links = state-links;
-        root = root (s .whole .height) (s .whole .root) (o .sound .full) t;
+        root = root (s .whole .height) (s .whole .root) (o .tall) t;
         once = λ m. once m;
         within = λ m u. inside m u;
       }
     where
-      root : (h : ℕ) (t : Tree h) → RootFull h t → All (Written (nodesIn s)) (blocks h none 0 t) → linkOf (nth (nodesIn s) (rootNo h t)) ≡ atRoot
-      root zero t f a = absurd f
-      root (suc h) t f a = ap linkOf (a .0)
+      root : (h : ℕ) (t : Tree h) → 1 ≤ h → All (Written (nodesIn s)) (blocks h none 0 t) → linkOf (nth (nodesIn s) (rootNo h t)) ≡ atRoot
+      root zero t l a = absurd (omega arith)
+      root (suc h) t l a = ap linkOf (a .0)
 
       few-cond : (b : Bool) → cond b 1 0 ≤ 1
       few-cond true = omega arith
       few-cond false = omega arith
 
       once : (m : ℕ) → 0 + has m (s .whole .height) (s .whole .root) + times m (s .free) ≤ 1
-      once m = omega (arith, o .sound .once m, few-cond (ltb m (s .size)))
+      once m = omega (arith, o .once m, few-cond (ltb m (s .size)))
 
       some-cond : (m : ℕ) (b : Bool) → ltb m (s .size) ≡ b → 1 ≤ cond b 1 0 → m < s .size
       some-cond m true e u = ltb-true m (s .size) e
       some-cond m false e u = absurd (omega arith)
 
       inside : (m : ℕ) → 1 ≤ 0 + has m (s .whole .height) (s .whole .root) + times m (s .free) → m < length (nodesIn s)
-      inside m u = rw (held .many) (some-cond m (ltb m (s .size)) refl (omega (arith, o .sound .once m)))
+      inside m u = rw (held .many) (some-cond m (ltb m (s .size)) refl (omega (arith, o .once m)))
+
+pub closed-of : {w : List ℕ} {s : State} → Holds w s → Closed (nodesIn s) (s .whole) (s .free)
+closed-of o = laid-closed (sound-laid (o .sound))
 
 -- ---- and back
 

@@ -1,0 +1,41 @@
+-- The way in and out: the words of a state whose only short nodes lie on a border are what the repair takes, and it leaves those of a sound one.
+-- Assumes nothing.
+use mathlib.Core.Path.{_≡_}
+use mathlib.Core.List.{List}
+use Prim.Native.Nat.{ℕ}
+use Rattle.model.specs.Nodes.{Grown}
+use Rattle.model.specs.Insert.{Side}
+use Rattle.model.specs.State.{State, list}
+use Rattle.model.specs.Words.{nodesIn, wordsOf}
+use Rattle.model.specs.Promise.{Holds}
+use Rattle.model.proofs.Held.{Laid, laid-held}
+use Rattle.model.proofs.Border.{bordered-fitting}
+use Rattle.standing.specs.Heads.{restOf, ClosedIn}
+use Rattle.standing.proofs.Scenes.{laid-closed}
+use Rattle.border.specs.Borders.{Rooted, RootedIn, Repairs, Bordering, mended}
+use Rattle.border.proofs.Tops.{rooted-of}
+use Rattle.border.proofs.Mended.{mended-list, mended-sound, mended-words}
+
+-- its tree and free nodes
+abbrev grownOf : State → Grown
+grownOf st = record { whole = st .whole; free = st .free }
+
+pub laid-rooted : {st : State} → Laid st → {w : List ℕ} → w ≡ wordsOf st → Rooted w (restOf st) (grownOf st)
+laid-rooted {st} o e =
+    let H : ClosedIn (wordsOf st) (restOf st) (grownOf st) = record { nodes = nodesIn st; arena = laid-held o .arena; stand = laid-closed o; many = laid-held o .many } in
+    rw e (rooted-of (grownOf st) H (o .tall))
+
+module _ {s : Side} {st : State} (b : Bordering s st) {w : List ℕ} (e : w ≡ wordsOf st) where
+  bordering-laid : Laid st
+  bordering-laid = record { few = b .few; once = b .once; tall = b .tall; fitting = bordered-fitting s (st .whole .height) (st .whole .root) (b .bordered) }
+
+  pub bordering-rooted : Rooted w (restOf st) (grownOf st)
+  bordering-rooted = laid-rooted bordering-laid e
+
+  -- what fix_right_border and fix_left_border require
+  pub bordering-in : RootedIn w
+  bordering-in = record { rest = restOf st; end = grownOf st; rooted = bordering-rooted }
+
+  -- and what follows from what they ensure: the words of a sound state with the same pairs
+  pub border-repaired : {w′ : List ℕ} → Repairs s w w′ → Holds w′ (mended s st) × (list (mended s st) ≡ list st)
+  border-repaired r = (record { sound = mended-sound b; words = mended-words b (r (restOf st) (grownOf st) bordering-rooted) }, mended-list b)
