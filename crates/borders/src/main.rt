@@ -3,6 +3,7 @@
 use border::fix_left_border;
 use border::fix_right_border;
 use node::NONE;
+use telling::say_line;
 ghost use mathlib.Core.Path.{_≡_};
 ghost use Prim.Native.Nat.{_≤_};
 ghost use lib.ListN.{length};
@@ -11,20 +12,6 @@ ghost use Rattle.borders.specs.Laying.{Mends, ShortOn, wordOf, wordsIn};
 
 // The words of 16 nodes.
 const LONG: usize = 618;
-
-fn say(n: u64) {
-    io::print_decimal(1, n);
-    io::write_all(1, b" ");
-}
-
-fn tell(a: &[u64]) {
-    let mut i = 0;
-    while i < a.len() {
-        say(a[i]);
-        i += 1;
-    }
-    io::write_all(1, b"\n");
-}
 
 // The word that a byte stands for: 255 for NONE.
 fn word(b: u8) -> u64
@@ -55,7 +42,7 @@ fn mend_right(a: &mut [u64], s: &[u8])
 {
     lay(a, s);
     fix_right_border(a);
-    tell(a);
+    say_line(a);
 }
 
 // The same of the left border.
@@ -65,7 +52,7 @@ fn mend_left(a: &mut [u64], s: &[u8])
 {
     lay(a, s);
     fix_left_border(a);
-    tell(a);
+    say_line(a);
 }
 
 // The arena of these bytes, mended on the right.

@@ -6,6 +6,7 @@ use format::format;
 use model::Answer;
 use node::NONE;
 use slices::clear;
+use telling::say_line;
 ghost use mathlib.Core.Path.{_≡_};
 ghost use Prim.Native.Nat.{_+_, _<_, _≤_};
 ghost use lib.ListN.{length};
@@ -118,17 +119,6 @@ fn sizes(a: &mut [u64])
     }
 }
 
-// Each word, with a space after it.
-fn words(a: &[u64]) {
-    let mut i = 0;
-    while i < a.len() {
-        io::print_decimal(1, a[i]);
-        io::write_all(1, b" ");
-        i += 1;
-    }
-    io::write_all(1, b"\n");
-}
-
 // The answers for each word.
 fn every_word(a: &mut [u64]) {
     let mut i = 0;
@@ -189,7 +179,7 @@ fn tree(a: &mut [u64])
 fn formats() {
     let mut two = [7; 86];
     format(&mut two);
-    words(&two);
+    say_line(&two);
     let mut one = [7; 48];
     format(&mut one);
     every_word(&mut one);

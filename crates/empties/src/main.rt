@@ -4,7 +4,11 @@ use format::format;
 use map::delete;
 use map::put;
 use std::num::wrapping_add_u64;
-use std::num::wrapping_sub_u64;
+use telling::around;
+use telling::mix_words;
+use telling::mixed;
+use telling::say;
+use telling::say_line;
 ghost use mathlib.Core.Path.{_≡_};
 ghost use Prim.Native.Nat.{_<_, _≤_};
 ghost use lib.ListN.{length};
@@ -15,51 +19,12 @@ const LONG: usize = 5710;
 // The keys are below this prime.
 const ROUND: u64 = 811;
 
-fn say(n: u64) {
-    io::print_decimal(1, n);
-    io::write_all(1, b" ");
-}
-
-fn twice(x: u64) -> u64 {
-    wrapping_add_u64(x, x)
-}
-
-// 31 times the number so far, and the word.
-fn mixed(mix: u64, w: u64) -> u64 {
-    let many = twice(twice(twice(twice(twice(mix)))));
-    wrapping_add_u64(wrapping_sub_u64(many, mix), w)
-}
-
-// All words mixed into the number so far.
-fn mix_words(so_far: u64, a: &[u64]) -> u64 {
-    let mut mix = so_far;
-    let mut i = 0;
-    while i < a.len() {
-        mix = mixed(mix, a[i]);
-        i += 1;
-    }
-    mix
-}
-
+// The mix so far and the header.
 fn tell(mix: u64, a: &[u64])
     requires { ⌜ length (now a) ≡ 5710 ⌝ }
 {
     say(mix);
-    let mut i = 0;
-    while i < 10 {
-        say(a[i]);
-        i += 1;
-    }
-    io::write_all(1, b"\n");
-}
-
-// The key `step` after one, round and round.
-fn next(key: u64, step: u64) -> u64
-    requires { ⌜ (key < 811) × (step < 811) ⌝ }
-    ensures { λ r. ⌜ r < 811 ⌝ }
-{
-    let k = key + step;
-    if k >= ROUND { k - ROUND } else { k }
+    say_line(&a[0..10]);
 }
 
 // The keys 1 to `pairs`.
@@ -91,7 +56,7 @@ fn empty(a: &mut [u64], first: u64, step: u64)
         if i % 50 == 0 {
             tell(mix, a);
         }
-        key = next(key, step);
+        key = around(key, step, ROUND);
         i += 1;
     }
     tell(mix, a);

@@ -5,6 +5,9 @@ use format::format;
 use map::get;
 use map::put;
 use model::Answer;
+use telling::around;
+use telling::say;
+use telling::say_line;
 ghost use mathlib.Core.Path.{_≡_};
 ghost use Prim.Native.Nat.{_<_};
 
@@ -14,32 +17,9 @@ const LONG: usize = 2442;
 // The keys are below this prime.
 const ROUND: u64 = 10_007;
 
-fn say(n: u64) {
-    io::print_decimal(1, n);
-    io::write_all(1, b" ");
-}
-
 fn tell(r: Answer) {
     say(r.number());
     say(r.word());
-}
-
-fn words(a: &[u64]) {
-    let mut i = 0;
-    while i < a.len() {
-        say(a[i]);
-        i += 1;
-    }
-    io::write_all(1, b"\n");
-}
-
-// The key `step` after one, round and round.
-fn next(key: u64, step: u64) -> u64
-    requires { ⌜ (key < 10007) × (step < 10007) ⌝ }
-    ensures { λ r. ⌜ r < 10007 ⌝ }
-{
-    let k = key + step;
-    if k >= ROUND { k - ROUND } else { k }
 }
 
 // How many keys come in, each `step` after the last, until one finds no room.
@@ -53,7 +33,7 @@ fn puts(a: &mut [u64], first: u64, step: u64) -> u64
         if r.number() == 3 {
             break;
         }
-        key = next(key, step);
+        key = around(key, step, ROUND);
         i += 1;
     }
     i
@@ -70,7 +50,7 @@ fn fill(a: &mut [u64], first: u64, step: u64)
     tell(get(a, ROUND));
     tell(check(a));
     io::write_all(1, b"\n");
-    words(a);
+    say_line(a);
 }
 
 fn main() {

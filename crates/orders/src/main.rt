@@ -3,6 +3,10 @@
 use batch::order;
 use format::format;
 use model::Answer;
+use telling::say;
+use telling::say_answer;
+use telling::say_last;
+use telling::word_at;
 ghost use mathlib.Core.Path.{_≡_};
 ghost use Prim.Native.Nat.{_+_, _≤_};
 ghost use lib.ListN.{length};
@@ -16,35 +20,11 @@ const ORDER: usize = 24;
 // So many orders are read at most: years of them.
 const TURNS: u64 = 1_000_000_000_000_000;
 
-fn wide(x: u8) -> u64 {
-    x as u64
-}
-
-// A word's worth of bytes, the lowest first.
-fn word(b: &[u8], at: usize) -> u64
-    requires { ⌜ at + 8 ≤ length (now b) ⌝ }
-{
-    let mut x = 0u64;
-    let mut i = 8;
-    while i > 0 {
-        i -= 1;
-        x = x << 8 | wide(b[at + i]);
-    }
-    x
-}
-
-fn say(r: Answer) {
-    io::print_decimal(1, r.number());
-    io::write_all(1, b" ");
-    io::print_decimal(1, r.word());
-    io::write_all(1, b"\n");
-}
-
 // One order of the arena.
 fn run(a: &mut [u64], b: &[u8])
     requires { ⌜ length (now b) ≡ 24 ⌝ }
 {
-    say(order(a, word(b, 0), word(b, 8), word(b, 16)));
+    say_answer(order(a, word_at(b, 0), word_at(b, 8), word_at(b, 16)));
 }
 
 // All orders to the end of the input; a short last one is refused.
@@ -55,7 +35,7 @@ fn run_all(a: &mut [u64]) {
         let n = io::read_full(0, &mut b);
         if n < ORDER {
             if n > 0 {
-                say(Answer::BadOrder);
+                say_answer(Answer::BadOrder);
             }
             return;
         }
@@ -68,14 +48,10 @@ fn run_all(a: &mut [u64]) {
 fn last_line(a: &[u64])
     requires { ⌜ length (now a) ≡ 2442 ⌝ }
 {
-    io::print_decimal(1, a[5]);
-    io::write_all(1, b" ");
-    io::print_decimal(1, a[7]);
-    io::write_all(1, b" ");
-    io::print_decimal(1, a[8]);
-    io::write_all(1, b" ");
-    io::print_decimal(1, a[9]);
-    io::write_all(1, b"\n");
+    say(a[5]);
+    say(a[7]);
+    say(a[8]);
+    say_last(a[9]);
 }
 
 fn main() {

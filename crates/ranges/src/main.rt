@@ -6,6 +6,8 @@ use map::get;
 use model::Range;
 use model::SearchBound;
 use node::NONE;
+use telling::say;
+use telling::say_line;
 ghost use mathlib.Core.Path.{_≡_};
 ghost use Prim.Native.Nat.{_+_, _*_, _<_, _≤_};
 ghost use lib.ListN.{length};
@@ -85,19 +87,6 @@ fn one_leaf(a: &mut [u64])
     leaf(a, 0, NONE, 0, 3, 1);
 }
 
-fn number(n: u64) {
-    io::print_decimal(1, n);
-    io::write_all(1, b" ");
-}
-
-fn words(a: &[u64]) {
-    let mut i = 0;
-    while i < a.len() {
-        number(a[i]);
-        i += 1;
-    }
-}
-
 fn bound(kind: usize, key: u64) -> SearchBound {
     match kind {
         0 => SearchBound::Included(key),
@@ -107,20 +96,19 @@ fn bound(kind: usize, key: u64) -> SearchBound {
 }
 
 // Lists a range into an output, and tells all that is answered and what the output then holds.
-fn say(a: &[u64], range: Range, out: &mut [u64]) {
+fn tell(a: &[u64], range: Range, out: &mut [u64]) {
     let r = list(a, range, out);
     let answer = r.answer;
-    number(answer.number());
-    number(r.wrote as u64);
-    number(if r.more { 1 } else { 0 });
-    words(out);
-    io::write_all(1, b"\n");
+    say(answer.number());
+    say(r.wrote as u64);
+    say(if r.more { 1 } else { 0 });
+    say_line(out);
 }
 
 // The range with these bounds, with room for three pairs and one word over.
 fn both(a: &[u64], start: SearchBound, end: SearchBound) {
     let mut out = [9; 7];
-    say(a, Range { start, end }, &mut out);
+    tell(a, Range { start, end }, &mut out);
 }
 
 fn ends(a: &[u64], start: SearchBound) {
@@ -154,8 +142,8 @@ fn gets(a: &[u64]) {
     let mut key = 0;
     while key < 150 {
         let r = get(a, key);
-        number(r.number());
-        number(r.word());
+        say(r.number());
+        say(r.word());
         key += 1;
     }
     io::write_all(1, b"\n");
@@ -168,11 +156,11 @@ fn whole(a: &[u64]) {
         end: SearchBound::AllIncluded,
     };
     let mut enough = [9; 142];
-    say(a, range, &mut enough);
+    tell(a, range, &mut enough);
     let mut short = [9; 140];
-    say(a, range, &mut short);
+    tell(a, range, &mut short);
     let mut none = [9; 1];
-    say(a, range, &mut none);
+    tell(a, range, &mut none);
 }
 
 fn all(a: &[u64]) {

@@ -10,8 +10,12 @@ use model::Range;
 use model::SearchBound;
 use search::Bifurcation;
 use search::search_tree_for_bifurcation;
-use std::num::wrapping_add_u64;
-use std::num::wrapping_sub_u64;
+use telling::mix_words;
+use telling::say;
+use telling::say_answer;
+use telling::say_last;
+use telling::say_words;
+use telling::word_at;
 ghost use mathlib.Core.Path.{_≡_};
 ghost use Prim.Native.Nat.{_+_, _≤_};
 ghost use lib.ListN.{length};
@@ -33,59 +37,6 @@ const LISTING: u64 = 512;
 const FORK: u64 = 1024;
 
 const TELL: u64 = 2048;
-
-fn wide(x: u8) -> u64 {
-    x as u64
-}
-
-// A word's worth of bytes, the lowest first.
-fn word(b: &[u8], at: usize) -> u64
-    requires { ⌜ at + 8 ≤ length (now b) ⌝ }
-{
-    let mut x = 0u64;
-    let mut i = 8;
-    while i > 0 {
-        i -= 1;
-        x = x << 8 | wide(b[at + i]);
-    }
-    x
-}
-
-fn twice(x: u64) -> u64 {
-    wrapping_add_u64(x, x)
-}
-
-// 31 times the number so far, and the word.
-fn mixed(mix: u64, w: u64) -> u64 {
-    let many = twice(twice(twice(twice(twice(mix)))));
-    wrapping_add_u64(wrapping_sub_u64(many, mix), w)
-}
-
-// All words mixed into the number so far.
-fn mix_words(so_far: u64, a: &[u64]) -> u64 {
-    let mut mix = so_far;
-    let mut i = 0;
-    while i < a.len() {
-        mix = mixed(mix, a[i]);
-        i += 1;
-    }
-    mix
-}
-
-fn number(n: u64) {
-    io::print_decimal(1, n);
-    io::write_all(1, b" ");
-}
-
-fn last(n: u64) {
-    io::print_decimal(1, n);
-    io::write_all(1, b"\n");
-}
-
-fn say(r: Answer) {
-    number(r.number());
-    last(r.word());
-}
 
 // A bound of its kind.
 fn bound(kind: u64, key: u64) -> SearchBound {
@@ -120,11 +71,11 @@ fn listing(a: &[u64], range: Range, mix: u64) -> u64 {
     let mut out = [9; 17];
     let r = list(a, range, &mut out);
     let answer = r.answer;
-    number(answer.number());
-    number(r.wrote as u64);
-    number(if r.more { 1 } else { 0 });
+    say(answer.number());
+    say(r.wrote as u64);
+    say(if r.more { 1 } else { 0 });
     let now = mix_words(mix, &out);
-    last(now);
+    say_last(now);
     now
 }
 
@@ -134,8 +85,8 @@ fn say_fork(f: Bifurcation) {
         Bifurcation::Together(edge) => {
             let node = edge.node;
             let at = edge.at;
-            number(node.0 as u64);
-            last(at.0 as u64);
+            say(node.0 as u64);
+            say_last(at.0 as u64);
         }
         Bifurcation::Parted(p) => {
             let node = p.node;
@@ -144,13 +95,13 @@ fn say_fork(f: Bifurcation) {
             let bounds = p.bounds;
             let start = bounds.start;
             let end = bounds.end;
-            number(node.0 as u64);
-            number(lower.0 as u64);
-            number(upper.0 as u64);
-            number(kind(start));
-            number(key(start));
-            number(kind(end));
-            last(key(end));
+            say(node.0 as u64);
+            say(lower.0 as u64);
+            say(upper.0 as u64);
+            say(kind(start));
+            say(key(start));
+            say(kind(end));
+            say_last(key(end));
         }
     }
 }
@@ -158,7 +109,7 @@ fn say_fork(f: Bifurcation) {
 // Where the edges of a range part, or the leaf edge where they do not.
 fn fork(a: &[u64], range: Range) {
     if !well_formed(a) {
-        say(Answer::BadArena);
+        say_answer(Answer::BadArena);
         return;
     }
     say_fork(search_tree_for_bifurcation(a, range));
@@ -168,13 +119,9 @@ fn fork(a: &[u64], range: Range) {
 fn tell(mix: u64, a: &[u64])
     requires { ⌜ length (now a) ≡ 5710 ⌝ }
 {
-    number(mix);
-    let mut i = 0;
-    while i < 9 {
-        number(a[i]);
-        i += 1;
-    }
-    last(a[9]);
+    say(mix);
+    say_words(&a[0..9]);
+    say_last(a[9]);
 }
 
 // One record; the mix after it.
@@ -182,7 +129,7 @@ fn run(a: &mut [u64], code: u64, k: u64, v: u64, mix: u64) -> u64
     requires { ⌜ length (now a) ≡ 5710 ⌝ }
 {
     if code == FORMAT {
-        say(format(a));
+        say_answer(format(a));
         return mix_words(mix, a);
     }
     if code == TELL {
@@ -199,7 +146,7 @@ fn run(a: &mut [u64], code: u64, k: u64, v: u64, mix: u64) -> u64
         fork(a, range);
         return mix;
     }
-    say(order(a, code, k, v));
+    say_answer(order(a, code, k, v));
     mix_words(mix, a)
 }
 
@@ -215,7 +162,7 @@ fn run_all(a: &mut [u64])
         if n < RECORD {
             return;
         }
-        mix = run(a, word(&b, 0), word(&b, 8), word(&b, 16), mix);
+        mix = run(a, word_at(&b, 0), word_at(&b, 8), word_at(&b, 16), mix);
         turns -= 1;
     }
 }

@@ -11,8 +11,8 @@ lay-requires c κs = search needs
 fix-left-border-requires : tie.Need-fix-left-border-requires
 fix-left-border-requires c κs = short-in (c .before .before .before .before .before .before .before .pre .1) (c .before .before .before .lay .ensures)
 
-tell-requires : tie.Need-tell-requires
-tell-requires c κs = search needs
+say-line-requires : tie.Need-say-line-requires
+say-line-requires c κs = search needs
 
 same-length : tie.Need-same-length
 same-length c = search needs
@@ -21,4 +21,4 @@ returns : tie.Need-returns
 returns c = mends (c .before .before .before .before .before .before .before .before .lay .ensures) (c .before .before .before .before .fix-left-border .ensures)
 
 pub mend-left-spec : {M : Type 1} → statement M
-mend-left-spec = tie.close (tie.spec lay-requires fix-left-border-requires tell-requires same-length returns)
+mend-left-spec = tie.close (tie.spec lay-requires fix-left-border-requires say-line-requires same-length returns)

@@ -11,8 +11,8 @@ lay-requires c κs = search needs
 fix-right-border-requires : tie.Need-fix-right-border-requires
 fix-right-border-requires c κs = short-in (c .before .before .before .before .before .before .before .pre .1) (c .before .before .before .lay .ensures)
 
-tell-requires : tie.Need-tell-requires
-tell-requires c κs = search needs
+say-line-requires : tie.Need-say-line-requires
+say-line-requires c κs = search needs
 
 same-length : tie.Need-same-length
 same-length c = search needs
@@ -21,4 +21,4 @@ returns : tie.Need-returns
 returns c = mends (c .before .before .before .before .before .before .before .before .lay .ensures) (c .before .before .before .before .fix-right-border .ensures)
 
 pub mend-right-spec : {M : Type 1} → statement M
-mend-right-spec = tie.close (tie.spec lay-requires fix-right-border-requires tell-requires same-length returns)
+mend-right-spec = tie.close (tie.spec lay-requires fix-right-border-requires say-line-requires same-length returns)

@@ -23,8 +23,8 @@ take-requires c κs = search needs
 tell-requires : tie.Need-tell-requires Inv-loop μ-loop
 tell-requires c κs = search needs
 
-next-requires : tie.Need-next-requires Inv-loop μ-loop
-next-requires c κs = search needs
+around-requires : tie.Need-around-requires Inv-loop μ-loop
+around-requires c κs = search needs
 
 add-i : tie.Need-add-i Inv-loop μ-loop
 add-i c = search needs
@@ -53,7 +53,7 @@ empty-spec =
     loop-holds
     take-requires
     tell-requires
-    next-requires
+    around-requires
     add-i
     loop-less
     loop-again

@@ -23,8 +23,8 @@ put-requires c κs = search needs
 number-requires : tie.Need-number-requires Inv-loop μ-loop
 number-requires c κs = search needs
 
-next-requires : tie.Need-next-requires Inv-loop μ-loop
-next-requires c κs = search needs
+around-requires : tie.Need-around-requires Inv-loop μ-loop
+around-requires c κs = search needs
 
 add-i : tie.Need-add-i Inv-loop μ-loop
 add-i c = search needs
@@ -56,7 +56,7 @@ puts-spec =
     loop-holds
     put-requires
     number-requires
-    next-requires
+    around-requires
     add-i
     loop-less
     loop-again

@@ -23,8 +23,8 @@ slice-aggregate-read-full c = search needs
 read-full-requires : tie.Need-read-full-requires Inv-loop μ-loop
 read-full-requires c κs = search needs
 
-say-requires : tie.Need-say-requires Inv-loop μ-loop
-say-requires c κs = search needs
+say-answer-requires : tie.Need-say-answer-requires Inv-loop μ-loop
+say-answer-requires c κs = search needs
 
 same-length : tie.Need-same-length Inv-loop μ-loop
 same-length c = search needs
@@ -68,7 +68,7 @@ run-all-spec =
     loop-holds
     slice-aggregate-read-full
     read-full-requires
-    say-requires
+    say-answer-requires
     same-length
     returns
     same-length-2

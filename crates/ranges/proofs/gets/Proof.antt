@@ -23,14 +23,14 @@ get-requires c κs = search needs
 number-requires : tie.Need-number-requires Inv-loop μ-loop
 number-requires c κs = search needs
 
-number-requires-2 : tie.Need-number-requires-2 Inv-loop μ-loop
-number-requires-2 c κs = search needs
+say-requires : tie.Need-say-requires Inv-loop μ-loop
+say-requires c κs = search needs
 
 word-requires : tie.Need-word-requires Inv-loop μ-loop
 word-requires c κs = search needs
 
-number-requires-3 : tie.Need-number-requires-3 Inv-loop μ-loop
-number-requires-3 c κs = search needs
+say-requires-2 : tie.Need-say-requires-2 Inv-loop μ-loop
+say-requires-2 c κs = search needs
 
 add-key : tie.Need-add-key Inv-loop μ-loop
 add-key c = search needs
@@ -59,9 +59,9 @@ gets-spec =
     loop-holds
     get-requires
     number-requires
-    number-requires-2
+    say-requires
     word-requires
-    number-requires-3
+    say-requires-2
     add-key
     loop-less
     loop-again

@@ -8,8 +8,8 @@ use Rattle.replay.proofs.fork.Tie as tie
 well-formed-requires : tie.Need-well-formed-requires
 well-formed-requires c κs = search needs
 
-say-requires : tie.Need-say-requires
-say-requires c κs = search needs
+say-answer-requires : tie.Need-say-answer-requires
+say-answer-requires c κs = search needs
 
 returns : tie.Need-returns
 returns c = search needs
@@ -28,7 +28,7 @@ fork-spec =
     tie.close
     (tie.spec
     well-formed-requires
-    say-requires
+    say-answer-requires
     returns
     search-tree-for-bifurcation-requires
     say-fork-requires

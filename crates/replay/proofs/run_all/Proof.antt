@@ -29,23 +29,23 @@ same-length c = search needs
 returns : tie.Need-returns Inv-loop μ-loop
 returns c = search needs
 
-slice-aggregate-word : tie.Need-slice-aggregate-word Inv-loop μ-loop
-slice-aggregate-word c = search needs
+slice-aggregate-word-at : tie.Need-slice-aggregate-word-at Inv-loop μ-loop
+slice-aggregate-word-at c = search needs
 
-word-requires : tie.Need-word-requires Inv-loop μ-loop
-word-requires c κs = search needs
+word-at-requires : tie.Need-word-at-requires Inv-loop μ-loop
+word-at-requires c κs = search needs
 
-slice-aggregate-word-2 : tie.Need-slice-aggregate-word-2 Inv-loop μ-loop
-slice-aggregate-word-2 c = search needs
+slice-aggregate-word-at-2 : tie.Need-slice-aggregate-word-at-2 Inv-loop μ-loop
+slice-aggregate-word-at-2 c = search needs
 
-word-requires-2 : tie.Need-word-requires-2 Inv-loop μ-loop
-word-requires-2 c κs = search needs
+word-at-requires-2 : tie.Need-word-at-requires-2 Inv-loop μ-loop
+word-at-requires-2 c κs = search needs
 
-slice-aggregate-word-3 : tie.Need-slice-aggregate-word-3 Inv-loop μ-loop
-slice-aggregate-word-3 c = search needs
+slice-aggregate-word-at-3 : tie.Need-slice-aggregate-word-at-3 Inv-loop μ-loop
+slice-aggregate-word-at-3 c = search needs
 
-word-requires-3 : tie.Need-word-requires-3 Inv-loop μ-loop
-word-requires-3 c κs = search needs
+word-at-requires-3 : tie.Need-word-at-requires-3 Inv-loop μ-loop
+word-at-requires-3 c κs = search needs
 
 run-requires : tie.Need-run-requires Inv-loop μ-loop
 run-requires c κs = search needs
@@ -76,12 +76,12 @@ run-all-spec =
     read-full-requires
     same-length
     returns
-    slice-aggregate-word
-    word-requires
-    slice-aggregate-word-2
-    word-requires-2
-    slice-aggregate-word-3
-    word-requires-3
+    slice-aggregate-word-at
+    word-at-requires
+    slice-aggregate-word-at-2
+    word-at-requires-2
+    slice-aggregate-word-at-3
+    word-at-requires-3
     run-requires
     sub-turns
     loop-less

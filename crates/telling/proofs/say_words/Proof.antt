@@ -1,30 +1,30 @@
--- `empties::mix_words` meets its contract.
+-- `telling::say_words` meets its contract.
 -- Assumes nothing.
 use Prim.Native.Nat.{_+_, _*_, _-_, _≤_, _<_}
 use native.Mathlib.Omega.{arith}
 use mathlib.Core.Path.{_≡_}
 use lib.ListN.{length, length-set}
 use borrow.Author.Needs.{needs}
-use Rattle.empties.proofs.mix_words.Statement.{statement}
-use Rattle.empties.proofs.mix_words.Tie as tie
+use Rattle.telling.proofs.say_words.Statement.{statement}
+use Rattle.telling.proofs.say_words.Tie as tie
 
 abbrev Inv-loop : tie.InvT-loop
-Inv-loop so-far a mix₀ i₀ mix i = i ≤ length a
+Inv-loop a i₀ i = i ≤ length a
 
 abbrev μ-loop : tie.MeasureT-loop
-μ-loop so-far a mix₀ i₀ mix i = length a - i
+μ-loop a i₀ i = length a - i
 
 loop-holds : tie.Need-loop-holds Inv-loop μ-loop
 loop-holds c = search needs
 
-mul-mixed : tie.Need-mul-mixed Inv-loop μ-loop
-mul-mixed c = search needs
+mul-say : tie.Need-mul-say Inv-loop μ-loop
+mul-say c = search needs
 
-shared-slice-read-mixed : tie.Need-shared-slice-read-mixed Inv-loop μ-loop
-shared-slice-read-mixed c = search needs
+shared-slice-read-say : tie.Need-shared-slice-read-say Inv-loop μ-loop
+shared-slice-read-say c = search needs
 
-mixed-requires : tie.Need-mixed-requires Inv-loop μ-loop
-mixed-requires c κs = search needs
+say-requires : tie.Need-say-requires Inv-loop μ-loop
+say-requires c κs = search needs
 
 add-i : tie.Need-add-i Inv-loop μ-loop
 add-i c = search needs
@@ -38,16 +38,16 @@ loop-again c = search needs
 returns : tie.Need-returns Inv-loop μ-loop
 returns c = search needs
 
-pub mix-words-spec : {M : Type 1} → statement M
-mix-words-spec =
+pub say-words-spec : {M : Type 1} → statement M
+say-words-spec =
     tie.close
     (tie.spec
     Inv-loop
     μ-loop
     loop-holds
-    mul-mixed
-    shared-slice-read-mixed
-    mixed-requires
+    mul-say
+    shared-slice-read-say
+    say-requires
     add-i
     loop-less
     loop-again

@@ -1,12 +1,12 @@
--- `replay::word` meets its contract.
+-- `telling::word_at` meets its contract.
 -- Assumes nothing.
 use Prim.Native.Nat.{_+_, _*_, _-_, _≤_, _<_}
 use native.Mathlib.Omega.{arith}
 use mathlib.Core.Path.{_≡_}
 use lib.ListN.{length, length-set}
 use borrow.Author.Needs.{needs}
-use Rattle.replay.proofs.word.Statement.{statement}
-use Rattle.replay.proofs.word.Tie as tie
+use Rattle.telling.proofs.word_at.Statement.{statement}
+use Rattle.telling.proofs.word_at.Tie as tie
 
 abbrev Inv-loop : tie.InvT-loop
 Inv-loop b at x₀ i₀ x i = i ≤ 8
@@ -38,8 +38,8 @@ loop-again c = search needs
 returns : tie.Need-returns Inv-loop μ-loop
 returns c = search needs
 
-pub word-spec : {M : Type 1} → statement M
-word-spec =
+pub word-at-spec : {M : Type 1} → statement M
+word-at-spec =
     tie.close
     (tie.spec
     Inv-loop

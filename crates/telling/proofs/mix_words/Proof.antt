@@ -1,12 +1,12 @@
--- `replay::mix_words` meets its contract.
+-- `telling::mix_words` meets its contract.
 -- Assumes nothing.
 use Prim.Native.Nat.{_+_, _*_, _-_, _≤_, _<_}
 use native.Mathlib.Omega.{arith}
 use mathlib.Core.Path.{_≡_}
 use lib.ListN.{length, length-set}
 use borrow.Author.Needs.{needs}
-use Rattle.replay.proofs.mix_words.Statement.{statement}
-use Rattle.replay.proofs.mix_words.Tie as tie
+use Rattle.telling.proofs.mix_words.Statement.{statement}
+use Rattle.telling.proofs.mix_words.Tie as tie
 
 abbrev Inv-loop : tie.InvT-loop
 Inv-loop so-far a mix₀ i₀ mix i = i ≤ length a

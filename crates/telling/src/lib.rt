@@ -1,0 +1,87 @@
+// What the programs share: numbers and words written out, words read from bytes, an arena's words mixed into one number.
+use model::Answer;
+use std::num::wrapping_add_u64;
+use std::num::wrapping_sub_u64;
+ghost use mathlib.Core.Path.{_≡_};
+ghost use Prim.Native.Nat.{_+_, _≤_, _<_};
+ghost use lib.ListN.{length};
+
+// A number and a space.
+pub fn say(n: u64) {
+    io::print_decimal(1, n);
+    io::write_all(1, b" ");
+}
+
+// A number and the end of the line.
+pub fn say_last(n: u64) {
+    io::print_decimal(1, n);
+    io::write_all(1, b"\n");
+}
+
+// A line with an answer's number and second word.
+pub fn say_answer(r: Answer) {
+    say(r.number());
+    say_last(r.word());
+}
+
+// Each word and a space.
+pub fn say_words(a: &[u64]) {
+    let mut i = 0;
+    while i < a.len() {
+        say(a[i]);
+        i += 1;
+    }
+}
+
+// A line of words, with a space after each.
+pub fn say_line(a: &[u64]) {
+    say_words(a);
+    io::write_all(1, b"\n");
+}
+
+fn wide(x: u8) -> u64 {
+    x as u64
+}
+
+// A word's worth of bytes, the lowest first.
+pub fn word_at(b: &[u8], at: usize) -> u64
+    requires { ⌜ at + 8 ≤ length (now b) ⌝ }
+{
+    let mut x = 0u64;
+    let mut i = 8;
+    while i > 0 {
+        i -= 1;
+        x = x << 8 | wide(b[at + i]);
+    }
+    x
+}
+
+fn twice(x: u64) -> u64 {
+    wrapping_add_u64(x, x)
+}
+
+// 31 times the number so far, and the word.
+pub fn mixed(mix: u64, w: u64) -> u64 {
+    let many = twice(twice(twice(twice(twice(mix)))));
+    wrapping_add_u64(wrapping_sub_u64(many, mix), w)
+}
+
+// All words mixed into the number so far.
+pub fn mix_words(so_far: u64, a: &[u64]) -> u64 {
+    let mut mix = so_far;
+    let mut i = 0;
+    while i < a.len() {
+        mix = mixed(mix, a[i]);
+        i += 1;
+    }
+    mix
+}
+
+// The key `step` after one, round and round.
+pub fn around(key: u64, step: u64, round: u64) -> u64
+    requires { ⌜ (key < round) × (step < round) × (round ≤ 4294967296) ⌝ }
+    ensures { λ r. ⌜ r < round ⌝ }
+{
+    let k = key + step;
+    if k >= round { k - round } else { k }
+}
