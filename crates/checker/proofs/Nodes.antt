@@ -11,6 +11,7 @@ use Rattle.model.specs.Layout.{least}
 use Rattle.model.specs.WellFormed.{Reached, lengthAt, edgeAt, keyAt, reach, keysIn, rootFewest}
 use Rattle.model.proofs.Lists.{join-more}
 use Rattle.model.specs.Shape.{Own, Shape}
+use Rattle.inspect.specs.Tests.{Leads}
 use Rattle.checker.specs.declared.Walk.{Walk}
 use Rattle.checker.specs.declared.Checked.{Checked}
 use Rattle.checker.specs.declared.Checked.the-variants.{Bad, Good}
@@ -29,6 +30,14 @@ pub shape-own : (w : List ℕ) (count h fewest n p e : ℕ) → Shape w count h 
 unfolding Shape
 shape-own w count zero fewest n p e s = s
 shape-own w count (suc h) fewest n p e s = s .0
+
+-- an internal node's edges lead to nodes whose parent it is
+pub shape-leads : (w : List ℕ) (count h fewest n p e m : ℕ) → (h ≡ 0 → ⊥) → m ≡ lengthAt w n → Shape w count h fewest n p e → (i : ℕ) → i < m + 1 → Leads w count n i
+unfolding Shape
+shape-leads w count zero fewest n p e m z k s i l = absurd (z refl)
+shape-leads w count (suc h) fewest n p e m z k s i l =
+    let o = shape-own w count h least (edgeAt w n i) n i (s .1 i (omega (arith, k))) in
+    record { inside = o .inside; parent-is = o .linked .parent-is }
 
 -- ---- the keys of a leaf, as those between its gaps
 

@@ -4,6 +4,7 @@ use inspect::Last;
 use inspect::Visit;
 use inspect::above;
 use inspect::chain;
+use inspect::lead;
 use inspect::marked;
 use inspect::own;
 use model::Answer;
@@ -127,6 +128,9 @@ fn check_node(a: &[u64], count: usize, v: Visit, before: Walk) -> Checked
     let n = len(a, node);
     if v.below == 0 {
         return check_keys(a, node, n, w);
+    }
+    if !lead(a, count, node, n) {
+        return Checked::Bad;
     }
     check_edges(a, count, node, n, v.below - 1, w)
 }

@@ -3,7 +3,9 @@
 use Prim.Native.Nat.{ℕ, _≤_, _<_}
 use mathlib.Core.Path.{_≡_}
 use mathlib.Core.Bool.{Bool, true, false}
-use Rattle.model.specs.WellFormed.{Reached}
+use mathlib.Core.List.{List}
+use Rattle.model.specs.Layout.{wordAt, parentWord}
+use Rattle.model.specs.WellFormed.{Reached, edgeAt}
 use Rattle.inspect.specs.declared.Visit.{Visit}
 use Rattle.inspect.specs.declared.Last.{Last}
 use Rattle.inspect.specs.declared.Last.the-variants.{Start, After}
@@ -15,6 +17,11 @@ Decides false P = P → ⊥
 
 abbrev pub reached : Visit → Reached
 reached v = record { below = v .below; fewest = v .fewest; node = v .node .0; parent = v .parent; place = v .place .0 }
+
+-- edge i of node n leads to a node whose parent that is
+pub record Leads (w : List ℕ) (count n i : ℕ) : Type 0 where
+  pub inside : edgeAt w n i < count
+  pub parent-is : wordAt w (edgeAt w n i) parentWord ≡ n
 
 -- the key k may come next
 abbrev pub Above : Last → ℕ → Type 0

@@ -1,4 +1,4 @@
-// The checker's tests of single parts: a node's own words, the free chain, a key after another, the mark. They only read.
+// The checker's tests of single parts: a node's own words, its children's links, the free chain, a key after another, the mark. They only read.
 use node::CAPACITY;
 use node::EDGES;
 use node::INTERNAL;
@@ -12,20 +12,21 @@ use node::Place;
 use node::STATE;
 use node::VALS;
 use node::WORDS;
+use node::edge;
 use node::len;
 use node::node_base;
 use node::parent;
 use node::parent_idx;
 use node::state;
 ghost use mathlib.Core.Path.{_≡_};
-ghost use Prim.Native.Nat.{_≤_};
+ghost use Prim.Native.Nat.{ℕ, _+_, _≤_, _<_};
 ghost use lib.ListN.{length};
 ghost use Rattle.model.specs.Layout.{Sized, most, nodeSize};
 ghost use Rattle.model.specs.Words.{kind};
 ghost use Rattle.model.specs.WellFormed.{UnusedZero, FreeZero, Linked, Zeros, lengthAt, edgesUsed};
 ghost use Rattle.model.specs.Shape.{Own, Chain};
 ghost use Rattle.node.specs.Reading.{Within};
-ghost use Rattle.inspect.specs.Tests.{Decides, Above, Marked, reached};
+ghost use Rattle.inspect.specs.Tests.{Decides, Leads, Above, Marked, reached};
 
 // A node that an edge leads to: the levels below it, the fewest pairs it may hold, its number, the node and the edge that lead there.
 pub struct Visit {
@@ -126,6 +127,27 @@ pub fn own(a: &[u64], count: usize, v: Visit) -> bool
         return false;
     }
     unused(a, v, n)
+}
+
+// Whether all edges of a node of n pairs lead to nodes whose parent it is. This is looked at before any of them is followed, so that the
+// reads of the children overlap.
+pub fn lead(a: &[u64], count: usize, node: NodeNo, n: usize) -> bool
+    requires { ⌜ Sized count (length (now a)) × (node .0 < count) × (n ≤ most) ⌝ }
+    ensures { λ r. ⌜ Decides r ((i : ℕ) → i < n + 1 → Leads (now (a .entry)) count (node .0) i) ⌝ }
+{
+    let edges = n + 1;
+    let mut i = 0;
+    while i < edges {
+        let child = edge(a, node, Place(i));
+        if child.0 >= count {
+            return false;
+        }
+        if parent(a, child) != node.0 as u64 {
+            return false;
+        }
+        i += 1;
+    }
+    true
 }
 
 // Whether a free node's words are right, all but the link.

@@ -10,7 +10,7 @@ use Rattle.inspect.specs.Tests.{reached}
 use Rattle.inspect.proofs.Decisions.{decided, refuted}
 use Rattle.checker.specs.declared.Checked.the-variants.{Good}
 use Rattle.checker.specs.Walks.{Said, edgesTask}
-use Rattle.checker.proofs.Nodes.{some-nodes, shape-own, edgeSteps, edges-none, edge-next, key-next, edge-stop, key-stop, own-said, leaf-said, inner-said}
+use Rattle.checker.proofs.Nodes.{some-nodes, shape-own, shape-leads, edgeSteps, edges-none, edge-next, key-next, edge-stop, key-stop, own-said, leaf-said, inner-said}
 use borrow.Author.Needs.{needs}
 use borrow.Fn.Kinds.{In}
 use borrow.Fn.PlainCycle.{Measures, is, falls, and}
@@ -24,6 +24,7 @@ use Rattle.checker.proofs.check_keys.Reads as check-keys-reads
 use Rattle.checker.proofs.child.Reads as child-reads
 use Rattle.checker.proofs.pass_key.Reads as pass-key-reads
 use Rattle.inspect.proofs.own.Reads as own-reads
+use Rattle.inspect.proofs.lead.Reads as lead-reads
 use Rattle.node.proofs.key.Reads as key-reads
 use Rattle.node.proofs.len.Reads as len-reads
 use Rattle.checker.proofs.+check_edges+check_node.{statement}
@@ -71,6 +72,8 @@ node-claims t = (
   len-reads.Learnt,
   check-keys-reads.Asked,
   check-keys-reads.Learnt,
+  lead-reads.Asked,
+  lead-reads.Learnt,
   check-edges-below t,
   check-edges.Post,
 )
@@ -199,18 +202,30 @@ check-node-returns-3 t c =
     leaf-said (x .a .now) (x .count) (r .fewest) (r .node) (r .parent) (r .place) (x .before) _ (c .check-keys .result) (r .below) (c .before .before .before .len .result) (c .before .if3 .taken) (c .before .before .before .len .ensures)
     (own-said (x .a .now) (x .count) r (x .before) (owned t o) (omega (arith, o .before .before .if1 .left))) (c .check-keys .ensures)
 
+check-node-lead-requires : (t : ℕ) → check-node-lts.Need-lead-requires (node-claims t) (check-node-at t) check-node.Post
+check-node-lead-requires t c κs = let o = owned t (c .before .before .before .before .before) in search needs
+
+check-node-returns-4 : (t : ℕ) → check-node-lts.Need-returns-4 (node-claims t) (check-node-at t) check-node.Post
+check-node-returns-4 t c =
+    λ p.
+    let o = c .before .before .before .before .before .before .before in
+    let x = o .before .before .before .before .before .args in
+    let r = reached (x .v) in
+    refuted (c .before .lead .result) (c .before .lead .ensures) (c .if4 .taken)
+    (shape-leads (x .a .now) (x .count) (r .below) (r .fewest) (r .node) (r .parent) (r .place) (c .before .before .before .before .len .result) (c .before .before .if3 .left) (c .before .before .before .before .len .ensures) (p .holds))
+
 check-node-sub-check-edges-2 : (t : ℕ) → check-node-lts.Need-sub-check-edges-2 (node-claims t) (check-node-at t) check-node.Post
 check-node-sub-check-edges-2 t c = search needs
 
 check-node-check-edges-requires : (t : ℕ) → check-node-lts.Need-check-edges-requires (node-claims t) (check-node-at t) check-node.Post
-check-node-check-edges-requires t c κs = let o = owned t (c .before .before .before .before .before .before) in search needs
+check-node-check-edges-requires t c κs = let o = owned t (c .before .before .before .before .before .before .before .before) in search needs
 
-check-node-returns-4 : (t : ℕ) → check-node-lts.Need-returns-4 (node-claims t) (check-node-at t) check-node.Post
-check-node-returns-4 t c =
-    let o = c .before .before .before .before .before .before .before in
+check-node-returns-5 : (t : ℕ) → check-node-lts.Need-returns-5 (node-claims t) (check-node-at t) check-node.Post
+check-node-returns-5 t c =
+    let o = c .before .before .before .before .before .before .before .before .before in
     let x = o .before .before .before .before .before .args in
     let r = reached (x .v) in
-    inner-said (x .a .now) (x .count) (r .fewest) (r .node) (r .parent) (r .place) (x .before) _ (c .check-edges .result) (r .below) (c .before .before .before .before .len .result) (c .before .before .if3 .left) (c .before .before .before .before .len .ensures)
+    inner-said (x .a .now) (x .count) (r .fewest) (r .node) (r .parent) (r .place) (x .before) _ (c .check-edges .result) (r .below) (c .before .before .before .before .before .before .len .result) (c .before .before .before .before .if3 .left) (c .before .before .before .before .before .before .len .ensures)
     (own-said (x .a .now) (x .count) r (x .before) (owned t o) (omega (arith, o .before .before .if1 .left))) (c .check-edges .ensures)
 
 pub +check-edges+check-node-spec : {M : Type 1} → statement M
@@ -246,6 +261,8 @@ pub +check-edges+check-node-spec : {M : Type 1} → statement M
     (check-node-len-requires t)
     (check-node-check-keys-requires t)
     (check-node-returns-3 t)
+    (check-node-lead-requires t)
+    (check-node-returns-4 t)
     (check-node-sub-check-edges-2 t)
     (check-node-check-edges-requires t)
-    (check-node-returns-4 t)
+    (check-node-returns-5 t)
