@@ -3,8 +3,9 @@ use model::Answer;
 use std::num::wrapping_add_u64;
 use std::num::wrapping_sub_u64;
 ghost use mathlib.Core.Path.{_≡_};
-ghost use Prim.Native.Nat.{_+_, _≤_, _<_};
+ghost use Prim.Native.Nat.{_+_, _*_, _%_, _^_, _≤_, _<_};
 ghost use lib.ListN.{length};
+ghost use Rattle.telling.specs.Numbers.{halfIn, wordIn, mixOf, mixAll, aroundOf};
 
 // A number and a space.
 pub fn say(n: u64) {
@@ -39,35 +40,52 @@ pub fn say_line(a: &[u64]) {
     io::write_all(1, b"\n");
 }
 
-fn wide(x: u8) -> u64 {
+fn wide(x: u8) -> u64
+    ensures { λ r. ⌜ (r ≡ x) × (r < 256) ⌝ }
+{
     x as u64
+}
+
+// Four bytes, the lowest first.
+fn half_at(b: &[u8], at: usize) -> u64
+    requires { ⌜ at + 4 ≤ length (now b) ⌝ }
+    ensures { λ r. ⌜ (r ≡ halfIn (now (b .entry)) at) × (r < 4294967296) ⌝ }
+{
+    let x = wide(b[at]);
+    let y = wide(b[at + 1]);
+    let z = wide(b[at + 2]);
+    let t = wide(b[at + 3]);
+    x + 256 * y + 65536 * z + 16777216 * t
 }
 
 // A word's worth of bytes, the lowest first.
 pub fn word_at(b: &[u8], at: usize) -> u64
     requires { ⌜ at + 8 ≤ length (now b) ⌝ }
+    ensures { λ r. ⌜ r ≡ wordIn (now (b .entry)) at ⌝ }
 {
-    let mut x = 0u64;
-    let mut i = 8;
-    while i > 0 {
-        i -= 1;
-        x = x << 8 | wide(b[at + i]);
-    }
-    x
+    let low = half_at(b, at);
+    let high = half_at(b, at + 4);
+    low + 4294967296 * high
 }
 
-fn twice(x: u64) -> u64 {
+fn twice(x: u64) -> u64
+    ensures { λ r. ⌜ r ≡ (x + x) % 2 ^ 64 ⌝ }
+{
     wrapping_add_u64(x, x)
 }
 
 // 31 times the number so far, and the word.
-pub fn mixed(mix: u64, w: u64) -> u64 {
+pub fn mixed(mix: u64, w: u64) -> u64
+    ensures { λ r. ⌜ r ≡ mixOf mix w ⌝ }
+{
     let many = twice(twice(twice(twice(twice(mix)))));
     wrapping_add_u64(wrapping_sub_u64(many, mix), w)
 }
 
 // All words mixed into the number so far.
-pub fn mix_words(so_far: u64, a: &[u64]) -> u64 {
+pub fn mix_words(so_far: u64, a: &[u64]) -> u64
+    ensures { λ r. ⌜ r ≡ mixAll «so_far» (now (a .entry)) ⌝ }
+{
     let mut mix = so_far;
     let mut i = 0;
     while i < a.len() {
@@ -80,7 +98,7 @@ pub fn mix_words(so_far: u64, a: &[u64]) -> u64 {
 // The key `step` after one, round and round.
 pub fn around(key: u64, step: u64, round: u64) -> u64
     requires { ⌜ (key < round) × (step < round) × (round ≤ 4294967296) ⌝ }
-    ensures { λ r. ⌜ r < round ⌝ }
+    ensures { λ r. ⌜ (r < round) × (r ≡ aroundOf key step round) ⌝ }
 {
     let k = key + step;
     if k >= round { k - round } else { k }
