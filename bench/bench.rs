@@ -8,32 +8,9 @@ use std::collections::BTreeMap;
 use std::hint::black_box;
 use std::time::Instant;
 
-#[link(name = "cuffgarnet", kind = "static")]
-extern "C" {
-    fn cuffgarnet_format(arena: *mut u64, n: u64) -> u64;
-    fn cuffgarnet_check(arena: *const u64, n: u64) -> u64;
-    fn cuffgarnet_get(arena: *const u64, n: u64, key: u64, second: *mut u64) -> u64;
-    fn cuffgarnet_list(
-        arena: *const u64,
-        n: u64,
-        start_kind: u64,
-        start: u64,
-        end_kind: u64,
-        end: u64,
-        out: *mut u64,
-        out_n: u64,
-        written: *mut u64,
-        more: *mut u64,
-    ) -> u64;
-    fn cuffgarnet_batch(
-        arena: *mut u64,
-        n: u64,
-        orders: *const u64,
-        orders_n: u64,
-        answers: *mut u64,
-        answers_n: u64,
-    ) -> u64;
-}
+#[allow(dead_code)]
+#[path = "../rust/src/ffi.rs"]
+mod ffi;
 
 #[repr(C)]
 struct Absl {
@@ -53,32 +30,25 @@ extern "C" {
 #[no_mangle]
 #[inline(never)]
 fn timed_ours_batch(arena: &mut [u64], orders: &[u64], answers: &mut [u64]) {
-    let (n, o, a) = (arena.len() as u64, orders.len() as u64, answers.len() as u64);
-    let said = unsafe { cuffgarnet_batch(arena.as_mut_ptr(), n, orders.as_ptr(), o, answers.as_mut_ptr(), a) };
-    assert_eq!(said, 0);
+    assert_eq!(ffi::batch(arena, orders, answers), 0);
 }
 
 #[no_mangle]
 #[inline(never)]
 fn timed_ours_check(arena: &[u64]) {
-    assert_eq!(unsafe { cuffgarnet_check(arena.as_ptr(), arena.len() as u64) }, 0);
+    assert_eq!(ffi::check(arena), 0);
 }
 
 #[no_mangle]
 #[inline(never)]
 fn timed_ours_get(arena: &[u64], key: u64) -> u64 {
-    let mut second = 0;
-    unsafe { cuffgarnet_get(arena.as_ptr(), arena.len() as u64, key, &mut second) };
-    second
+    ffi::get(arena, key).second
 }
 
 #[no_mangle]
 #[inline(never)]
 fn timed_ours_list(arena: &[u64], out: &mut [u64]) -> usize {
-    let (mut written, mut more) = (0, 0);
-    let (n, room) = (arena.len() as u64, out.len() as u64);
-    unsafe { cuffgarnet_list(arena.as_ptr(), n, 0, 0, 0, 0, out.as_mut_ptr(), room, &mut written, &mut more) };
-    written as usize
+    ffi::list(arena, (0, 0), (0, 0), out).written as usize
 }
 
 #[no_mangle]
@@ -164,7 +134,7 @@ fn spent(f: impl FnOnce()) -> f64 {
 impl Three {
     fn new(nodes: usize) -> Self {
         let mut arena = vec![0; 10 + 38 * nodes];
-        assert_eq!(unsafe { cuffgarnet_format(arena.as_mut_ptr(), arena.len() as u64) }, 0);
+        assert_eq!(ffi::format(&mut arena), 0);
         Three { turn: 0, arena, btree: BTreeMap::new(), absl: unsafe { absl_new() } }
     }
 
@@ -172,11 +142,7 @@ impl Three {
     fn fill(&mut self, who: Who, orders: &[u64]) {
         let mut answers = vec![0; orders.len() / 3 * 2];
         match who {
-            Who::Ours => {
-                let (n, o, a) = (self.arena.len() as u64, orders.len() as u64, answers.len() as u64);
-                let (arena, orders, answers) = (self.arena.as_mut_ptr(), orders.as_ptr(), answers.as_mut_ptr());
-                assert_eq!(unsafe { cuffgarnet_batch(arena, n, orders, o, answers, a) }, 0);
-            }
+            Who::Ours => assert_eq!(ffi::batch(&mut self.arena, orders, &mut answers), 0),
             Who::Btree => self.btree.extend(orders.chunks_exact(3).map(|o| (o[1], o[2]))),
             Who::Absl => unsafe { absl_batch(self.absl, orders.as_ptr(), orders.len() / 3, answers.as_mut_ptr()) },
         }

@@ -15,6 +15,7 @@ mod boxed {
 }
 
 mod btree;
+mod ffi;
 mod histories;
 #[cfg(inner)]
 mod inner;

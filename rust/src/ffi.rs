@@ -1,6 +1,7 @@
 //! The exported calls as they are, and safe functions over slices: a slice is never longer than what it lends.
+//! They are declared here alone: oracle/ and bench/ take this file as a module of theirs.
 
-extern "C" {
+unsafe extern "C" {
     fn cuffgarnet_format(arena: *mut u64, n: u64) -> u64;
     fn cuffgarnet_check(arena: *const u64, n: u64) -> u64;
     fn cuffgarnet_get(arena: *const u64, n: u64, key: u64, second: *mut u64) -> u64;
@@ -29,6 +30,9 @@ extern "C" {
     fn cuffgarnet_restore(arena: *mut u64, n: u64, image: *const u64, image_n: u64) -> u64;
 }
 
+/// What a word holds before a call writes it, as every call does; not 0, so that oracle/ would notice one left unwritten.
+const UNWRITTEN: u64 = 7;
+
 /// A call's number and second word.
 pub struct Said {
     pub number: u64,
@@ -55,26 +59,26 @@ pub fn check(arena: &[u64]) -> u64 {
 }
 
 pub fn get(arena: &[u64], key: u64) -> Said {
-    let mut second = 0;
+    let mut second = UNWRITTEN;
     let number = unsafe { cuffgarnet_get(arena.as_ptr(), arena.len() as u64, key, &mut second) };
     Said { number, second }
 }
 
 pub fn put(arena: &mut [u64], key: u64, value: u64) -> Said {
-    let mut second = 0;
+    let mut second = UNWRITTEN;
     let number = unsafe { cuffgarnet_put(arena.as_mut_ptr(), arena.len() as u64, key, value, &mut second) };
     Said { number, second }
 }
 
 pub fn delete(arena: &mut [u64], key: u64) -> Said {
-    let mut second = 0;
+    let mut second = UNWRITTEN;
     let number = unsafe { cuffgarnet_delete(arena.as_mut_ptr(), arena.len() as u64, key, &mut second) };
     Said { number, second }
 }
 
 pub fn list(arena: &[u64], start: (u64, u64), end: (u64, u64), out: &mut [u64]) -> Told {
-    let mut written = 0;
-    let mut more = 0;
+    let mut written = UNWRITTEN;
+    let mut more = UNWRITTEN;
     let number = unsafe {
         cuffgarnet_list(
             arena.as_ptr(),
