@@ -1,25 +1,40 @@
-//! Makes the static library with `rt staticlib cuffgarnet`, which proves it first, and says where to find it.
-//! With CUFFGARNET_LIB set to the path of a `libcuffgarnet.a`, that one is linked and nothing is made.
+//! Links the static library: the one that CUFFGARNET_LIB names, or else the repository's own, which tools/library makes with
+//! `rt` unless it is up to date. Proving it from nothing takes minutes. Cargo hides what a build script writes until it has ended,
+//! so each step is also told to the terminal, if there is one; `cargo build -vv` shows the steps anywhere.
 
+use std::fs::{File, OpenOptions};
+use std::io::{BufRead, BufReader, Write};
 use std::path::{Path, PathBuf};
-use std::process::{exit, Command};
+use std::process::{exit, Command, Stdio};
 
-/// The archive of CUFFGARNET_LIB, or the one that `rt` writes in the repository.
+/// Runs tools/library, and tells each of its lines.
+fn made(root: &Path) -> Result<(), String> {
+    let mut terminal: Option<File> = OpenOptions::new().write(true).open("/dev/tty").ok();
+    let mut run = Command::new(root.join("tools/library"))
+        .current_dir(root)
+        .stdout(Stdio::piped())
+        .spawn()
+        .map_err(|e| format!("cannot run tools/library: {e}; or set CUFFGARNET_LIB to a libcuffgarnet.a"))?;
+    if let Some(out) = run.stdout.take() {
+        for line in BufReader::new(out).lines().map_while(Result::ok) {
+            println!("{line}");
+            if let Some(terminal) = &mut terminal {
+                _ = writeln!(terminal, "\r  cuffgarnet: {line}");
+            }
+        }
+    }
+    let ended = run.wait().map_err(|e| format!("tools/library: {e}"))?;
+    ended.success().then_some(()).ok_or_else(|| "tools/library could not make the static library".to_string())
+}
+
+/// The archive of CUFFGARNET_LIB, or the one in the repository.
 fn archive(root: &Path) -> Result<PathBuf, String> {
     if let Some(path) = std::env::var_os("CUFFGARNET_LIB") {
         println!("cargo:rerun-if-changed={}", Path::new(&path).display());
         return Ok(PathBuf::from(path));
     }
-    let run = Command::new("rt").args(["staticlib", "cuffgarnet"]).current_dir(root).output();
-    match run {
-        Err(e) => Err(format!("cannot run `rt` (the Rattle kit): {e}; or set CUFFGARNET_LIB to a libcuffgarnet.a")),
-        Ok(out) if !out.status.success() => Err(format!(
-            "`rt staticlib cuffgarnet` failed:\n{}{}",
-            String::from_utf8_lossy(&out.stdout),
-            String::from_utf8_lossy(&out.stderr)
-        )),
-        Ok(_) => Ok(root.join("target/staticlib/libcuffgarnet.a")),
-    }
+    made(root)?;
+    Ok(root.join("target/staticlib/libcuffgarnet.a"))
 }
 
 /// Copies the archive to the build's own folder, so that it stays when the repository's target/ goes, and links it.

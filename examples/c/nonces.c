@@ -1,5 +1,6 @@
 /* The nonce story in C. A broker encrypts each message under a counter and keeps counter -> slot in the index. It saves the
- * words, goes on, and loses its disk: after the restore the saved pairs are back, and the next counter is still a fresh one.
+ * words, goes on, and an operator brings the saved words back: the saved pairs are back, and the next counter is still a fresh
+ * one, because the arena that is restored onto has kept its mark. An arena that is lost has not: see broker.c.
  *
  * tools/try compiles this, runs it and compares what it writes with nonces.txt. */
 #include "cuffgarnet.h"

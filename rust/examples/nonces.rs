@@ -1,5 +1,6 @@
-//! The nonce story. A broker encrypts each message under a counter and keeps counter -> slot in the index. It takes a
-//! snapshot, goes on, and loses its disk: after the restore the saved pairs are back, and the next counter is a fresh one.
+//! The nonce story. A broker encrypts each message under a counter and keeps counter -> slot in the index. It takes a snapshot,
+//! goes on, and an operator brings the snapshot back: the saved pairs are back, and the next counter is still a fresh one,
+//! because the arena that is restored onto has kept its mark. An arena that is lost has not: see the example `broker`.
 
 use cuffgarnet::{Error, Index};
 

@@ -1,0 +1,107 @@
+//! What a kill in the middle of a call leaves in a mapped arena. The kill comes at a known moment: a child works on words that
+//! it shares with the test, of which one page may not be written; it dies at the first word that it writes there.
+#![allow(clippy::unwrap_used, clippy::indexing_slicing, clippy::arithmetic_side_effects)]
+
+use cuffgarnet::{Error, Index};
+use std::ffi::{c_int, c_long, c_void};
+
+unsafe extern "C" {
+    fn mmap(at: *mut c_void, long: usize, access: c_int, flags: c_int, file: c_int, from: c_long) -> *mut c_void;
+    fn mprotect(at: *mut c_void, long: usize, access: c_int) -> c_int;
+    fn munmap(at: *mut c_void, long: usize) -> c_int;
+    fn fork() -> c_int;
+    fn waitpid(process: c_int, status: *mut c_int, how: c_int) -> c_int;
+    fn _exit(status: c_int) -> !;
+}
+
+const READ: c_int = 1;
+const WRITE: c_int = 2;
+const SHARED_NO_FILE: c_int = 0x21;
+const PAGE: usize = 512; // words: 4,096 bytes
+const PAIRS: usize = 5;
+
+/// Runs work on the words of an arena in a child that may not write the page of one word; hands out what it leaves.
+fn killed_at(word: usize, before: &[u64], work: impl Fn(&mut [u64])) -> Vec<u64> {
+    let long = 8 * before.len().next_multiple_of(PAGE);
+    // SAFETY: the mapping is new, long enough and shared with the child alone, and no slice of it outlives it. The child
+    // allocates nothing and ends here.
+    unsafe {
+        let at = mmap(std::ptr::null_mut(), long, READ | WRITE, SHARED_NO_FILE, -1, 0);
+        assert_ne!(at as isize, -1);
+        std::slice::from_raw_parts_mut(at.cast::<u64>(), before.len()).copy_from_slice(before);
+        let child = fork();
+        if child == 0 {
+            mprotect(at.cast::<u64>().add(word / PAGE * PAGE).cast(), 8 * PAGE, READ);
+            work(std::slice::from_raw_parts_mut(at.cast::<u64>(), before.len()));
+            _exit(0);
+        }
+        let mut status = 0;
+        assert_eq!(waitpid(child, &mut status, 0), child);
+        assert_ne!(status, 0, "the child was not killed");
+        let left = std::slice::from_raw_parts(at.cast::<u64>(), before.len()).to_vec();
+        munmap(at, long);
+        assert_ne!(left, before, "the child was killed before it wrote");
+        left
+    }
+}
+
+fn filled(keys: impl Iterator<Item = u64>) -> Index {
+    let mut index = Index::with_nodes(64).unwrap();
+    for key in keys {
+        index.insert(key, key).unwrap();
+    }
+    index
+}
+
+/// The first word of a node.
+fn base(node: usize) -> usize {
+    10 + 38 * node
+}
+
+#[test]
+fn a_put_that_is_killed_is_refused() {
+    let index = filled(1..=200);
+    // the new pair goes to a leaf on another page than the header, whose pair count comes after it
+    let left = killed_at(PAIRS, index.words(), |words| {
+        _ = Index::open(words).and_then(|mut index| index.insert(201, 201));
+    });
+    assert_eq!(Index::open(left).err(), Some(Error::BadArena));
+}
+
+/// The limit: a delete of a pair in an inner node first takes the pair before it out of its leaf, and in between the arena is
+/// well-formed without that other pair.
+#[test]
+fn a_delete_that_is_killed_may_lose_another_pair_unseen() {
+    let index = filled(1..=200);
+    let w = index.words();
+    // an inner node's key that is on another page than the header and the leaf before it
+    let far = |node: usize, leaf: usize| base(node) / PAGE > 0 && (base(leaf) + 37) / PAGE < base(node) / PAGE;
+    let inner = (0..64).filter(|n| w[base(*n)] == 2);
+    let mut keys = inner.flat_map(|n| (0..w[base(n) + 1] as usize).map(move |i| (n, i)));
+    let (node, i) = keys
+        .find(|(n, i)| w[base(w[base(*n) + 26 + i] as usize)] == 1 && far(*n, w[base(*n) + 26 + i] as usize))
+        .unwrap();
+    let key = w[base(node) + 4 + i];
+
+    let left = killed_at(base(node) + 4 + i, w, |words| {
+        _ = Index::open(words).and_then(|mut index| index.remove(key));
+    });
+    let left = Index::open(left).unwrap(); // believed
+    assert_eq!((left.get(key), left.get(key - 1)), (Ok(Some(key)), Ok(None))); // asked for key, lost the one before it
+}
+
+/// The limit: a restore writes the image's mark first and raises it at its end, and in between the arena is well-formed with the
+/// image's mark. So an arena is never restored in place: docs/OPERATING.md.
+#[test]
+fn a_restore_that_is_killed_may_lower_the_mark() {
+    let mut index = filled(1..=20);
+    let image = index.snapshot();
+    for key in 21..=25 {
+        index.insert(key, key).unwrap();
+    }
+    let left = killed_at(image.len() - 1, index.words(), |words| {
+        _ = Index::open(words).and_then(|mut index| index.restore(&image));
+    });
+    let left = Index::open(left).unwrap(); // believed
+    assert_eq!((index.mark(), left.mark()), (Ok(Some(25)), Ok(Some(20))));
+}
