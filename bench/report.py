@@ -1,10 +1,11 @@
-"""The figures of bench/run as tables and a plot.
+"""The figures of bench/run as tables. docs/pictures.py draws the plot.
 
     report.py print TIMES.csv     prints the tables
-    report.py write FOLDER        puts them between the marks of docs/SPEED.md, and writes docs/speed.svg
+    report.py write FOLDER        puts them between the marks of docs/SPEED.md
+    report.py operating FILE.csv  puts capacity and cost between the marks of docs/OPERATING.md
 """
 
-import math
+import os
 import sys
 
 NAMES = {
@@ -85,62 +86,51 @@ def count_tables(path):
             )
 
 
-# ---- the plot: two panels, ratio by size
-
-COLOURS = ["#1f6f8b", "#c8553d", "#588157", "#8e6c8a", "#d4a017", "#444444", "#0b3954", "#b23a48"]
-
-
-def panel(x0, title, lines, low, high, top, bars, unit):
-    """A panel at x0 with a curve for each of lines: name -> [(size, ratio)]; horizontal lines at the bars."""
-    wide, tall, y0 = 380, 260, 50
-    sx = lambda v: x0 + wide * (math.log10(v) - math.log10(low)) / (math.log10(high) - math.log10(low))
-    sy = lambda v: y0 + tall * (1 - v / top)
-    yield f'<text x="{x0}" y="{y0 - 22}" font-size="14" font-weight="bold">{title}</text>'
-    step = 0.25 if top <= 2 else 1
-    ticks = [i * step for i in range(int(top / step) + 1)]
-    for t in ticks:
-        yield f'<line x1="{x0}" x2="{x0 + wide}" y1="{sy(t):.1f}" y2="{sy(t):.1f}" stroke="#e3e3e3"/>'
-        yield f'<text x="{x0 - 6}" y="{sy(t) + 4:.1f}" text-anchor="end">{t:g}</text>'
-    for value, label in bars:
-        yield f'<line x1="{x0}" x2="{x0 + wide}" y1="{sy(value):.1f}" y2="{sy(value):.1f}" stroke="#888" stroke-dasharray="5 4"/>'
-        yield f'<text x="{x0 + wide}" y="{sy(value) - 4:.1f}" text-anchor="end" fill="#666">{label}</text>'
-    sizes = sorted({s for pts in lines.values() for s, _ in pts})
-    for s in sizes:
-        yield f'<text x="{sx(s):.1f}" y="{y0 + tall + 16}" text-anchor="middle">{s:,}</text>'
-    yield f'<text x="{x0 + wide / 2}" y="{y0 + tall + 34}" text-anchor="middle" fill="#666">{unit}</text>'
-    for i, (name, pts) in enumerate(lines.items()):
-        colour = COLOURS[i % len(COLOURS)]
-        path = " ".join(f"{sx(s):.1f},{sy(min(v, top)):.1f}" for s, v in pts)
-        yield f'<polyline points="{path}" fill="none" stroke="{colour}" stroke-width="2"/>'
-        for s, v in pts:
-            yield f'<circle cx="{sx(s):.1f}" cy="{sy(min(v, top)):.1f}" r="3" fill="{colour}"/>'
-        yield f'<rect x="{x0 + (i % 2) * 190}" y="{y0 + tall + 46 + 18 * (i // 2)}" width="12" height="12" fill="{colour}"/>'
-        yield f'<text x="{x0 + (i % 2) * 190 + 18}" y="{y0 + tall + 56 + 18 * (i // 2)}">{name}</text>'
+def operating(path):
+    """The tables of docs/OPERATING.md: capacity, and microseconds a message."""
+    capacity, cost = tables(path)
+    yield "| nodes | bytes | rising counters | pairs a node | bytes a pair | random keys | pairs a node |"
+    yield "|---|---|---|---|---|---|---|"
+    for r in capacity:
+        nodes, size, rising, rand = int(r["capacity"]), 8 * int(r["words"]), int(r["rising"]), int(r["random"])
+        yield f"| {nodes:,} | {size:,} | {rising:,} | {rising / nodes:.1f} | {size / rising:.0f} | {rand:,} | {rand / nodes:.1f} |"
+    batches = list(dict.fromkeys(int(r["batch"]) for r in cost))
+    yield ""
+    yield "Microseconds a message, by the size of the batch:"
+    yield ""
+    yield "| nodes | pairs | " + " | ".join(f"{b:,}" for b in batches) + " |"
+    yield "|---|---|" + "---|" * len(batches)
+    by = {(int(r["cost"]), int(r["batch"])): r for r in cost}
+    for nodes in dict.fromkeys(int(r["cost"]) for r in cost):
+        each = [float(by[nodes, b]["microseconds"]) for b in batches]
+        shown = [f"{v:,.0f}" if v >= 100 else f"{v:.1f}" if v >= 10 else f"{v:.2f}" for v in each]
+        yield f"| {nodes:,} | {int(by[nodes, batches[0]]['pairs']):,} | " + " | ".join(shown) + " |"
 
 
-def plot(path):
-    cases, checks = tables(path)
-    lines = {}
-    for r in cases:
-        if r["case"] == "swept":
-            continue  # a small difference of two large times: in the table, with its quarters
-        lines.setdefault(NAMES[r["case"]], []).append((int(r["pairs"]), float(r["b2"])))
-    check = {}
-    for r in checks:
-        check.setdefault(r["arena"] + " arena", []).append((int(r["nodes"]), float(r["check"]) / float(r["or"])))
-    sizes = [s for pts in lines.values() for s, _ in pts]
-    nodes = [s for pts in check.values() for s, _ in pts]
-    top = max(1.5, math.ceil(4 * max(v for pts in lines.values() for _, v in pts)) / 4)
-    high = math.ceil(max(v for pts in check.values() for _, v in pts)) + 1
-    body = list(panel(60, "orders without the check, time / BTreeMap's", lines, min(sizes), max(sizes), top, [(1.1, "1.1")], "pairs"))
-    body += panel(540, "the check, time / one OR over the words", check, min(nodes), max(nodes), high, [(3.5, "3.5")], "nodes")
-    head = '<svg xmlns="http://www.w3.org/2000/svg" width="960" height="440" font-family="sans-serif" font-size="11">'
-    return "\n".join([head, '<rect width="960" height="440" fill="white"/>', *body, "</svg>"]) + "\n"
+def put_between(path, lines):
+    """Puts lines between the marks of a document."""
+    text = open(path).read()
+    begin, end = "<!-- figures: begin -->\n", "<!-- figures: end -->"
+    before, rest = text.split(begin)
+    open(path, "w").write(before + begin + "\n" + "\n".join(lines) + "\n\n" + end + rest.split(end)[1])
 
 
 def main():
     if sys.argv[1] == "print":
         print("\n".join(time_tables(sys.argv[2])))
+        return
+    if sys.argv[1] == "operating":
+        load = " ".join(open("/proc/loadavg").read().split()[:3])
+        machine = f"{os.uname().sysname} {os.uname().machine}, {os.cpu_count()} processors, load averages {load} at the end."
+        put_between(
+            "docs/OPERATING.md",
+            [
+                f"Seen on {machine} A message is one delete of the oldest and one put of the next counter,",
+                "both in one batch, in memory; a sync comes on top. Each time is the lower quarter of the rounds.",
+                "",
+                *operating(sys.argv[2]),
+            ],
+        )
         return
     folder = sys.argv[2]
     load = lambda f: open(f"{folder}/load.{f}").read().strip()
@@ -160,12 +150,7 @@ def main():
         "",
         *count_tables(f"{folder}/counts.csv"),
     ]
-    text = open("docs/SPEED.md").read()
-    begin, end = "<!-- figures: begin -->\n", "<!-- figures: end -->"
-    before, rest = text.split(begin)
-    after = rest.split(end)[1]
-    open("docs/SPEED.md", "w").write(before + begin + "\n" + "\n".join(figures) + "\n\n" + end + after)
-    open("docs/speed.svg", "w").write(plot(f"{folder}/times.csv"))
+    put_between("docs/SPEED.md", figures)
 
 
 main()
