@@ -111,23 +111,28 @@ static void work(void) {
     }
 }
 
+/* Raises the mark of an arena that was checked to the saved counter, if it is lower. */
+static void raise_mark(uint64_t *arena) {
+    uint64_t saved, second;
+    if (read_words(SAVED, &saved, 1) != 1) return;
+    if (arena[CUFFGARNET_WORD_SEEN] == 1 && arena[CUFFGARNET_WORD_MARK] >= saved) return;
+    must(cuffgarnet_put(arena, WORDS, saved, 0, &second) == CUFFGARNET_DONE, "put"); /* raises the mark */
+    must(cuffgarnet_delete(arena, WORDS, saved, &second) == CUFFGARNET_VALUE, "delete"); /* does not lower it */
+}
+
 /* Recovery: a new arena is formatted, the saved mark put, the image restored; whole and durable, it takes the old one's place. */
 static void recover(void) {
     static uint64_t arena[WORDS], image[WORDS];
-    uint64_t saved, second;
     must(cuffgarnet_format(arena, WORDS) == CUFFGARNET_DONE, "format");
-    if (read_words(SAVED, &saved, 1) == 1) {
-        must(cuffgarnet_put(arena, WORDS, saved, 0, &second) == CUFFGARNET_DONE, "put"); /* raises the mark */
-        must(cuffgarnet_delete(arena, WORDS, saved, &second) == CUFFGARNET_VALUE, "delete"); /* does not lower it */
-    }
+    raise_mark(arena);
     if (read_words(IMAGE, image, WORDS) == WORDS) /* the image's pairs, the larger of both marks */
         must(cuffgarnet_restore(arena, WORDS, image, WORDS) == CUFFGARNET_DONE, "restore");
     replace(ARENA, arena, WORDS);
 }
 
-/* The next counter of the arena as it stands; recovers first if it is lost or torn, and says whether that was so. A kill in a
- * batch never lowers the mark, so an arena that is still well-formed has the right one. A delete may have been cut short in it:
- * docs/OPERATING.md says what that means for its pairs. */
+/* What every start does: recovers if the arena is lost or torn, and raises the mark to the saved one. Hands out the next counter,
+ * and whether the arena was refused. One that is still well-formed is taken as it is; docs/OPERATING.md says what that means for
+ * its pairs. */
 static uint64_t reopen(int *refused) {
     uint64_t *arena = map();
     *refused = arena == NULL || cuffgarnet_check(arena, WORDS) != CUFFGARNET_DONE;
@@ -137,6 +142,7 @@ static uint64_t reopen(int *refused) {
         arena = map();
         must(arena != NULL && cuffgarnet_check(arena, WORDS) == CUFFGARNET_DONE, "the recovered arena");
     }
+    raise_mark(arena);
     uint64_t next = next_counter(arena);
     munmap(arena, 8 * WORDS);
     return next;

@@ -6,7 +6,7 @@
 //! Standard output is the same in every run (examples/c/broker.txt); how many arenas were torn goes to standard error.
 #![allow(clippy::arithmetic_side_effects)]
 
-use cuffgarnet::{Error, Index, Order};
+use cuffgarnet::{Error, Index, Order, Words};
 use std::error::Error as Any;
 use std::ffi::{c_int, c_long, c_void};
 use std::fs::{self, File, OpenOptions};
@@ -142,13 +142,21 @@ fn work(files: &Files) -> Result<(), Box<dyn Any>> {
     Ok(())
 }
 
+/// Raises the mark to the saved counter, if it is lower.
+fn raise<W: Words>(index: &mut Index<W>, files: &Files) -> Result<(), Box<dyn Any>> {
+    if let Some(saved) = read(&files.saved)?.first() {
+        if index.mark()? < Some(*saved) {
+            index.insert(*saved, 0)?; // raises the mark
+            index.remove(*saved)?; // does not lower it
+        }
+    }
+    Ok(())
+}
+
 /// Recovery: a new arena is formatted, the saved mark put, the image restored; whole and durable, it takes the old one's place.
 fn recover(files: &Files) -> Result<(), Box<dyn Any>> {
     let mut index = Index::with_nodes(NODES)?;
-    if let Some(saved) = read(&files.saved)?.first() {
-        index.insert(*saved, 0)?; // raises the mark
-        index.remove(*saved)?; // does not lower it
-    }
+    raise(&mut index, files)?;
     let image = read(&files.image)?;
     if !image.is_empty() {
         index.restore(&image)?; // the image's pairs, the larger of both marks
@@ -156,9 +164,9 @@ fn recover(files: &Files) -> Result<(), Box<dyn Any>> {
     replace(&files.arena, index.words())
 }
 
-/// The next counter of the arena as it stands; recovers first if it is lost or torn, and says whether that was so. A kill in a
-/// batch never lowers the mark, so an arena that is still well-formed has the right one. A delete may have been cut short in
-/// it: docs/OPERATING.md says what that means for its pairs.
+/// What every start does: recovers if the arena is lost or torn, and raises the mark to the saved one. Says the next counter, and
+/// whether the arena was refused. One that is still well-formed is taken as it is; docs/OPERATING.md says what that means for its
+/// pairs.
 fn reopen(files: &Files) -> Result<(u64, bool), Box<dyn Any>> {
     let refused = match files.arena.exists() {
         true => Index::open(Mapped::open(&files.arena)?.words()).err(),
@@ -168,7 +176,9 @@ fn reopen(files: &Files) -> Result<(u64, bool), Box<dyn Any>> {
         recover(files)?;
     }
     let mut mapped = Mapped::open(&files.arena)?;
-    Ok((next_counter(&Index::open(mapped.words())?)?, refused.is_some()))
+    let mut index = Index::open(mapped.words())?;
+    raise(&mut index, files)?;
+    Ok((next_counter(&index)?, refused.is_some()))
 }
 
 /// Starts a broker and kills it once its mark has reached a counter, in the middle of a batch.

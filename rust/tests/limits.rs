@@ -46,6 +46,13 @@ fn a_mark_lowered_where_the_keys_allow_it_is_believed() {
     let mut words = index.into_words();
     words[MARK] = 3;
     assert_eq!(next_counter(&Index::open(&mut words[..]).unwrap()), 4); // 4 to 9 would be used again
+
+    // so at every start the counter saved in a second place is put and taken out again
+    let mut index = Index::open(words.clone()).unwrap();
+    index.insert(9, 0).unwrap();
+    index.remove(9).unwrap();
+    assert_eq!((next_counter(&index), index.len()), (10, Ok(1)));
+
     words[MARK] = 2; // below a key that is there: refused
     assert_eq!(Index::open(words).err(), Some(Error::BadArena));
 }
