@@ -1,6 +1,6 @@
 /* Cuffgarnet for C and C++: an ordered index from 64-bit keys to 64-bit values over words that the caller lends.
  *
- * Link target/staticlib/libcuffgarnet.a, which `rt staticlib cuffgarnet` writes; nothing else is needed.
+ * Link target/staticlib/libcuffgarnet.a, which tools/library makes; nothing else is needed.
  *
  * Every call is proved: for any words that it is lent, what it returns and what every lent word holds when it ends
  * (crates/cuffgarnet/src/lib.rt). The caller's part, which no proof can see, is what Rust's references ask:
@@ -9,7 +9,10 @@
  *   - words that a call writes overlap no other words lent to the same call, and nobody else touches them meanwhile.
  *
  * Every call but cuffgarnet_format first checks the whole arena, which costs a few passes over its words (docs/SPEED.md);
- * cuffgarnet_batch does so once for all its orders.
+ * cuffgarnet_batch does so once for all its orders. The check refuses broken structure. It is no checksum: a flipped bit in a
+ * value, a key moved between its neighbours, or a mark lowered to a number that no key present exceeds, is believed. A lost or
+ * torn arena can only be formatted, which forgets the mark. And nothing is proved of a call that is killed before it ends.
+ * docs/OPERATING.md has the recipes: the mark in a second place, a checksum over the file, recovery.
  */
 #ifndef CUFFGARNET_H
 #define CUFFGARNET_H
@@ -28,7 +31,7 @@ enum cuffgarnet_answer {
     CUFFGARNET_VALUE = 1,     /* get: found; put: replaced; delete: removed; the second word is the (former) value */
     CUFFGARNET_ABSENT = 2,    /* get or delete: no such key */
     CUFFGARNET_NO_ROOM = 3,   /* put of an absent key lacks nodes */
-    CUFFGARNET_BAD_ARENA = 4, /* the words are not a well-formed arena */
+    CUFFGARNET_BAD_ARENA = 4, /* the words are not a well-formed arena (docs/RULES.md) */
     CUFFGARNET_BAD_RANGE = 5, /* start above end; or equal and both excluded; or a kind of bound that is none */
     CUFFGARNET_BAD_ORDER = 6, /* an order's code is not 1, 2 or 3 */
     CUFFGARNET_BAD_SIZE = 7,  /* a length that cannot be: see format, batch and restore */
@@ -57,12 +60,12 @@ enum cuffgarnet_code {
 #define CUFFGARNET_WORD_PAIRS 5 /* how many pairs there are */
 #define CUFFGARNET_WORD_FREE 7  /* how many nodes are free */
 #define CUFFGARNET_WORD_SEEN 8  /* 1 if a key was ever put, else 0 */
-#define CUFFGARNET_WORD_MARK 9  /* the largest key ever put; no call but format lowers it */
+#define CUFFGARNET_WORD_MARK 9  /* the largest key ever put or restored; no call but format lowers it */
 
-/* Formats n words as an empty arena. 0; 7 if n is not 10 + 38 N for an N of 1 to 65,535. */
+/* Formats n words as an empty arena, and forgets the mark. 0; 7 if n is not 10 + 38 N for an N of 1 to 65,535. */
 uint64_t cuffgarnet_format(uint64_t *arena, uint64_t n);
 
-/* Whether the words are a well-formed arena. 0; 4 if not. Changes nothing. */
+/* Whether the words are a well-formed arena: its structure, not its values. 0; 4 if not. Changes nothing. */
 uint64_t cuffgarnet_check(const uint64_t *arena, uint64_t n);
 
 /* The value of a key. 1 and the value; 2 and 0 if absent; 4 and 0. Changes nothing. */
@@ -87,7 +90,8 @@ uint64_t cuffgarnet_batch(uint64_t *arena, uint64_t n, const uint64_t *orders, u
                           uint64_t answers_n);
 
 /* Copies an image (the words of an arena, saved earlier) over the arena; the mark becomes the larger of the two. 0; 7 if
- * the lengths differ; 4; 8 if the image is not well-formed. The image does not change. */
+ * the lengths differ; 4; 8 if the image is not well-formed. The image does not change. A restore that is killed may have lowered
+ * the mark, so restore into a copy of the arena's file and rename it. */
 uint64_t cuffgarnet_restore(uint64_t *arena, uint64_t n, const uint64_t *image, uint64_t image_n);
 
 #ifdef __cplusplus

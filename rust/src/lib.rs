@@ -19,15 +19,23 @@
 //! # What a call costs
 //!
 //! The words may come from anywhere, so **every call but formatting first checks the whole arena**: whatever the key, it
-//! reads each node once, some 25 nanoseconds a node in use and 8 a free one while the arena is in the caches, two to four
-//! times as long where it is not. A damaged arena is refused with [`Error::BadArena`] and never believed. [`Index::apply`] checks
-//! once for a whole batch of orders: use it wherever there is more than one thing to do. docs/SPEED.md in the repository
-//! has the figures.
+//! reads each node once. On the x86-64 machine of docs/SPEED.md that takes 18 nanoseconds a full node and 6 a free one while the
+//! arena is in the caches, and about three times as long where it is not. [`Index::apply`] checks once for a whole batch of
+//! orders: use it wherever there is more than one thing to do. docs/OPERATING.md has microseconds a message by batch size.
+//!
+//! # What the check sees, and what not
+//!
+//! Words whose structure is broken are refused with [`Error::BadArena`], and nothing is changed. The check is no checksum: a
+//! flipped bit in a value, a key moved between its neighbours, or a mark lowered to a number that no key present exceeds, leaves
+//! a well-formed arena and is believed. And a mark is kept by the arena alone: a lost or torn arena can only be formatted, which
+//! forgets it. Keep the mark in a second place and a checksum over a file; docs/OPERATING.md in the repository has the recipes,
+//! and what a kill in the middle of a call leaves.
 //!
 //! # Mapped files
 //!
 //! [`Index::open`] takes a `&mut [u64]`. Words of a mapped file are fine as long as nobody else writes to them, or shortens
-//! the file, while the index borrows them; that promise is made where the mapping is turned into a slice.
+//! the file, while the index borrows them; that promise is made where the mapping is turned into a slice. The example `broker`
+//! does it.
 //!
 
 #![deny(missing_docs)]
@@ -139,7 +147,8 @@ impl Index {
 }
 
 impl<W: Words> Index<W> {
-    /// Formats words as an empty index, whatever they held. This alone forgets the mark.
+    /// Formats words as an empty index, whatever they held. This alone forgets the mark: who formats a lost arena anew puts the
+    /// saved mark first, and removes it again.
     ///
     /// # Errors
     /// [`Error::BadSize`] if their number is not 10 + 38 N for an N of 1 to 65,535. No word has changed then.
@@ -157,7 +166,8 @@ impl<W: Words> Index<W> {
         Ok(Index { words })
     }
 
-    /// An index on words that were formatted and filled earlier, as a mapped file's.
+    /// An index on words that were formatted and filled earlier, as a mapped file's. Values, and keys within their gaps, are
+    /// taken as they are: see the [crate's documentation](crate).
     ///
     /// # Errors
     /// [`Error::BadArena`] if they are not a well-formed arena.
@@ -319,7 +329,9 @@ impl<W: Words> Index<W> {
         self.words.words().to_vec()
     }
 
-    /// Brings the pairs of a snapshot back. The mark becomes the larger of the two: a key that was ever put stays spent.
+    /// Brings the pairs of a snapshot back. The mark becomes the larger of the two: a key that was ever put here, or in the
+    /// snapshot, stays spent. The mark of an arena that is lost is in neither: it has to be put first. A restore that is killed
+    /// may have lowered the mark, so restore into a copy and rename it (docs/OPERATING.md).
     ///
     /// # Errors
     /// [`Error::BadSize`] if the image is not as long as this index, [`Error::BadArena`], [`Error::BadImage`] if the
