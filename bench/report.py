@@ -26,7 +26,7 @@ def tables(path):
     found = []
     for line in open(path):
         fields = line.strip().split(",")
-        if fields[0] in ("case", "arena"):
+        if fields[0] in ("case", "arena", "capacity", "cost"):
             found.append((fields, []))
         else:
             found[-1][1].append(dict(zip(found[-1][0], fields)))
