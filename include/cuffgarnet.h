@@ -78,6 +78,10 @@ uint64_t cuffgarnet_put(uint64_t *arena, uint64_t n, uint64_t key, uint64_t valu
 /* Takes a pair out; the mark stays. 1 and the value; 2 and 0 if absent; 4 and 0. */
 uint64_t cuffgarnet_delete(uint64_t *arena, uint64_t n, uint64_t key, uint64_t *second);
 
+/* Runs one order by its code, as the call of that code would; 6 and 0 for a code that is none, behind 4. Get and delete ignore the
+ * value. */
+uint64_t cuffgarnet_order(uint64_t *arena, uint64_t n, uint64_t code, uint64_t key, uint64_t value, uint64_t *second);
+
 /* Writes the first out_n / 2 pairs of a range to out, key then value, in rising order; further words of out stay. 0 with
  * how many pairs were written, and more 1 if pairs of the range remain, else 0; 4 or 5 with 0 and 0. */
 uint64_t cuffgarnet_list(const uint64_t *arena, uint64_t n, uint64_t start_kind, uint64_t start, uint64_t end_kind,

@@ -155,4 +155,5 @@ def main():
         print("04"[not well_formed(w)])
 
 
-main()
+if __name__ == "__main__":
+    main()

@@ -1,4 +1,4 @@
-# A plain B-tree of nodes written from document 01's rules for insertion, removal and repair: what fills.py, empties.py and borders.py run.
+# A plain B-tree of nodes written from document 01's rules for insertion, removal and repair: what the other files here run.
 MOST, LEAST, NONE = 11, 5, 2**32 - 1
 
 
@@ -101,6 +101,10 @@ class Tree:
             self.nodes[n].keys[i], self.nodes[n].vals[i] = pair
         self.pairs -= 1
         return (1, val)
+
+    # One order by its code.
+    def order(self, code, key, val):
+        return self.put(key, val) if code == 1 else self.get(key) if code == 2 else self.delete(key) if code == 3 else (6, 0)
 
     # The pair out of its leaf, and the repair upwards.
     def take(self, way):

@@ -7,6 +7,7 @@ unsafe extern "C" {
     fn cuffgarnet_get(arena: *const u64, n: u64, key: u64, second: *mut u64) -> u64;
     fn cuffgarnet_put(arena: *mut u64, n: u64, key: u64, value: u64, second: *mut u64) -> u64;
     fn cuffgarnet_delete(arena: *mut u64, n: u64, key: u64, second: *mut u64) -> u64;
+    fn cuffgarnet_order(arena: *mut u64, n: u64, code: u64, key: u64, value: u64, second: *mut u64) -> u64;
     fn cuffgarnet_list(
         arena: *const u64,
         n: u64,
@@ -73,6 +74,12 @@ pub fn put(arena: &mut [u64], key: u64, value: u64) -> Said {
 pub fn delete(arena: &mut [u64], key: u64) -> Said {
     let mut second = UNWRITTEN;
     let number = unsafe { cuffgarnet_delete(arena.as_mut_ptr(), arena.len() as u64, key, &mut second) };
+    Said { number, second }
+}
+
+pub fn order(arena: &mut [u64], code: u64, key: u64, value: u64) -> Said {
+    let mut second = UNWRITTEN;
+    let number = unsafe { cuffgarnet_order(arena.as_mut_ptr(), arena.len() as u64, code, key, value, &mut second) };
     Said { number, second }
 }
 

@@ -287,6 +287,22 @@ impl<W: Words> Index<W> {
         self.range(..)
     }
 
+    /// Runs one order, as the single call of its kind would.
+    ///
+    /// # Errors
+    /// [`Error::BadArena`]; [`Error::NoRoom`] if an insertion lacks nodes.
+    ///
+    /// ```
+    /// use cuffgarnet::{Error, Index, Order};
+    /// let mut index = Index::with_nodes(4)?;
+    /// assert_eq!(index.apply_one(Order::Insert(1, 10))?, None);
+    /// assert_eq!(index.apply_one(Order::Remove(1))?, Some(10));
+    /// # Ok::<(), Error>(())
+    /// ```
+    pub fn apply_one(&mut self, order: Order) -> Outcome {
+        order::apply_one(self.words.words_mut(), order)
+    }
+
     /// Runs orders in turn behind one check of the arena, each as the single call would. A refused order does not stop
     /// the rest: its outcome is its error.
     ///

@@ -28,6 +28,11 @@ impl Order {
     }
 }
 
+pub(crate) fn apply_one(arena: &mut [u64], order: Order) -> Outcome {
+    let [code, key, value] = order.words();
+    error::value(ffi::order(arena, code, key, value))
+}
+
 pub(crate) fn apply(arena: &mut [u64], orders: &[Order]) -> Result<Vec<Outcome>, Error> {
     let asked: Vec<u64> = orders.iter().flat_map(|order| order.words()).collect();
     let mut said: Vec<u64> = orders.iter().flat_map(|_| [0, 0]).collect();

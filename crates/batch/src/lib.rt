@@ -7,7 +7,9 @@ ghost use Prim.Native.Nat.{_+_, _*_, _<_, _≤_};
 ghost use lib.ListN.{length, getD, set};
 ghost use Rattle.model.specs.State as model;
 ghost use Rattle.model.specs.WellFormed.{WellFormed};
-ghost use Rattle.model.specs.Promise.{Holds, Does, Call, Batch};
+ghost use Rattle.model.specs.Promise.{Holds, Does};
+ghost use Rattle.model.specs.Public.{Promised};
+ghost use Rattle.model.specs.Public as promise;
 ghost use Rattle.model.specs.Answer.{numbersOf};
 ghost use Rattle.batch.specs.Orders.{orderOf, Ran};
 
@@ -36,7 +38,7 @@ fn run(a: &mut [u64], code: u64, key: u64, val: u64) -> Answer
 
 // One order.
 pub fn order(a: &mut [u64], code: u64, key: u64, val: u64) -> Answer
-    ensures { λ r. ⌜ Call (model.order (orderOf code key val)) (now (a .entry)) (now (a .exit)) r ⌝ }
+    ensures { λ r. ⌜ Promised (promise.order (orderOf code key val)) (now (a .entry)) (now (a .exit)) tt r ⌝ }
 {
     if !well_formed(a) {
         return Answer::BadArena;
@@ -68,7 +70,7 @@ fn run_all(a: &mut [u64], orders: &[u64], answers: &mut [u64], n: usize)
 
 // A batch: whole triples, and exactly two words of answer an order.
 pub fn batch(a: &mut [u64], orders: &[u64], answers: &mut [u64]) -> Answer
-    ensures { λ r. ⌜ Batch (now (orders .entry)) (now (a .entry)) (now (a .exit)) (now (answers .entry)) (now (answers .exit)) r ⌝ }
+    ensures { λ r. ⌜ Promised (promise.batch (now (orders .entry)) (now (answers .entry))) (now (a .entry)) (now (a .exit)) (now (answers .exit)) r ⌝ }
 {
     let n = orders.len() / 3;
     if orders.len() != 3 * n {

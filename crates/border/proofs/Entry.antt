@@ -10,9 +10,9 @@ use Rattle.model.specs.Words.{nodesIn, wordsOf}
 use Rattle.model.specs.Promise.{Holds}
 use Rattle.model.proofs.Held.{Laid, laid-held}
 use Rattle.model.proofs.Border.{bordered-fitting}
-use Rattle.standing.specs.Heads.{restOf, ClosedIn}
+use Rattle.standing.specs.Heads.{Rest, restOf, ClosedIn}
 use Rattle.standing.proofs.Scenes.{laid-closed}
-use Rattle.border.specs.Borders.{Rooted, RootedIn, Repairs, Bordering, mended}
+use Rattle.border.specs.Borders.{border, Rooted, RootedIn, Bordering, mended, ShortOn, Repairs}
 use Rattle.border.proofs.Tops.{rooted-of}
 use Rattle.border.proofs.Mended.{mended-list, mended-sound, mended-words}
 
@@ -32,10 +32,13 @@ module _ {s : Side} {st : State} (b : Bordering s st) {w : List ℕ} (e : w ≡ 
   pub bordering-rooted : Rooted w (restOf st) (grownOf st)
   bordering-rooted = laid-rooted bordering-laid e
 
-  -- what fix_right_border and fix_left_border require
-  pub bordering-in : RootedIn w
-  bordering-in = record { rest = restOf st; end = grownOf st; rooted = bordering-rooted }
-
-  -- and what follows from what they ensure: the words of a sound state with the same pairs
-  pub border-repaired : {w′ : List ℕ} → Repairs s w w′ → Holds w′ (mended s st) × (list (mended s st) ≡ list st)
+  -- whatever tree the words are, repaired: of this one, the words of a sound state with the same pairs
+  pub border-repaired : {w′ : List ℕ} → ((g : Rest) (t : Grown) → Rooted w g t → Rooted w′ g (border s t)) → Holds w′ (mended s st) × (list (mended s st) ≡ list st)
   border-repaired r = (record { sound = mended-sound b; words = mended-words b (r (restOf st) (grownOf st) bordering-rooted) }, mended-list b)
+
+-- what fix_right_border and fix_left_border require, for their steps; and what they ensure, from what those ensure
+pub short-in : {s : Side} {w : List ℕ} → ShortOn s w → RootedIn w
+short-in x = record { rest = restOf (x .state); end = grownOf (x .state); rooted = bordering-rooted (x .short) (x .words) }
+
+pub repairs : (s : Side) {w w′ : List ℕ} → ((g : Rest) (t : Grown) → Rooted w g t → Rooted w′ g (border s t)) → Repairs s w w′
+repairs s r st b e = border-repaired b e r

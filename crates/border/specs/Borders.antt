@@ -15,7 +15,9 @@ use Rattle.model.specs.State.{State, list}
 use Rattle.model.specs.Nodes.{Grown}
 use Rattle.model.specs.Insert.{Side}
 use Rattle.model.specs.Border.{topsOf, downOf, fixDown, fixBorder}
-use Rattle.model.proofs.Border.{Bordered}
+use Rattle.model.specs.Words.{wordsOf}
+use Rattle.model.specs.Sizes.{Bordered}
+use Rattle.model.specs.Promise.{Holds}
 use Rattle.standing.specs.Heads.{Rest, HoleIn}
 
 abbrev pub tops : Grown → Grown
@@ -72,10 +74,6 @@ pub record DescendsIn (s : Side) (w : List ℕ) (node : ℕ) : Type 0 where
   pub end : Grown
   pub coming : Descending s w rest node (suc height) end
 
--- the words w, whatever tree they are, become w′, that tree repaired
-abbrev pub Repairs : Side → List ℕ → List ℕ → Type 0
-Repairs s w w′ = (g : Rest) (t : Grown) → Rooted w g t → Rooted w′ g (border s t)
-
 -- ---- what the repair is for: a state that is sound but for its sizes, where the only short nodes lie on the border
 
 pub record Bordering (s : Side) (st : State) : Type 0 where
@@ -90,3 +88,13 @@ pub record Bordering (s : Side) (st : State) : Type 0 where
 -- the state that it leaves
 abbrev pub mended : Side → State → State
 mended s st = record { size = st .size; whole = (fixBorder s (st .whole) (st .free)) .whole; free = (fixBorder s (st .whole) (st .free)) .free; mark = st .mark }
+
+-- there is such a state, and the words are its
+pub record ShortOn (s : Side) (w : List ℕ) : Type 0 where
+  pub state : State
+  pub short : Bordering s state
+  pub words : w ≡ wordsOf state
+
+-- the words w of such a state become w′, those of the state repaired, which is sound and has the same pairs
+abbrev pub Repairs : Side → List ℕ → List ℕ → Type 0
+Repairs s w w′ = (st : State) → Bordering s st → w ≡ wordsOf st → Holds w′ (mended s st) × (list (mended s st) ≡ list st)

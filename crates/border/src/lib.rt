@@ -16,7 +16,7 @@ ghost use Prim.Native.Nat.{ℕ, suc};
 ghost use Rattle.model.specs.Insert.{left, right};
 ghost use Rattle.model.specs.Nodes.{Grown};
 ghost use Rattle.standing.specs.Heads.{Rest};
-ghost use Rattle.border.specs.Borders.{Rooted, RootedIn, Topped, ToppedIn, Descending, DescendsIn, Repairs, tops, down};
+ghost use Rattle.border.specs.Borders.{Rooted, RootedIn, Topped, ToppedIn, Descending, DescendsIn, ShortOn, Repairs, tops, down};
 
 // Drops empty tops, down to a leaf.
 pub fn fix_top(a: &mut [u64])
@@ -98,7 +98,7 @@ fn fix_left_border_of_left_edge(a: &mut [u64])
 
 // Repairs a tree whose only short nodes lie on its right border.
 pub fn fix_right_border(a: &mut [u64])
-    requires { ⌜ RootedIn (now a) ⌝ }
+    requires { ⌜ ShortOn right (now a) ⌝ }
     ensures { λ _. ⌜ Repairs right (now (a .entry)) (now (a .exit)) ⌝ }
 {
     fix_top(a);
@@ -108,7 +108,7 @@ pub fn fix_right_border(a: &mut [u64])
 
 // The same of its left border.
 pub fn fix_left_border(a: &mut [u64])
-    requires { ⌜ RootedIn (now a) ⌝ }
+    requires { ⌜ ShortOn left (now a) ⌝ }
     ensures { λ _. ⌜ Repairs left (now (a .entry)) (now (a .exit)) ⌝ }
 {
     fix_top(a);

@@ -8,9 +8,8 @@ use mathlib.Core.List.{List, [], _∷_, _++_, map-append}
 use lib.ListN.{length, getD, set, take}
 use lib.Seq.{take-all, take-suc, take-suc-set}
 use Rattle.model.specs.Insert.{Side}
-use Rattle.border.specs.Borders.{RootedIn, Repairs}
-use Rattle.border.proofs.Entry.{bordering-in, border-repaired}
-use Rattle.borders.specs.Laying.{wordOf, wordsIn, ShortOn, Mends}
+use Rattle.border.specs.Borders.{ShortOn, Repairs}
+use Rattle.borders.specs.Laying.{wordOf, wordsIn}
 
 pub lay-step : (a s : List ℕ) (i v : ℕ) → i < length a → i < length s → v ≡ wordOf (getD s i 0) → take i a ≡ wordsIn (take i s) → take (i + 1) (set a i v) ≡ wordsIn (take (i + 1) s)
 lay-step a s i v l m e q = rw (add-one i, take-suc-set a i v l, take-suc s i 0 m, q, e) (sym (map-append wordOf (take i s) (getD s i 0 ∷ [])))
@@ -19,8 +18,8 @@ pub lay-ends : (a s : List ℕ) (i : ℕ) → length a ≡ length s → length s
 lay-ends a s i l m q = sym (take-all i a (omega arith)) ∙ q ∙ ap wordsIn (take-all i s m)
 
 -- what the repair asks of words x that are laid from w, and what it leaves
-pub short-in : {s : Side} {w x : List ℕ} → ShortOn s w → x ≡ w → RootedIn x
-short-in o e = bordering-in (o .short) (e ∙ o .words)
+pub short-laid : {s : Side} {w x : List ℕ} → ShortOn s w → x ≡ w → ShortOn s x
+short-laid o e = record { state = o .state; short = o .short; words = e ∙ o .words }
 
-pub mends : {s : Side} {w x w′ : List ℕ} → x ≡ w → Repairs s x w′ → Mends s w w′
-mends e r st b q = border-repaired b (e ∙ q) r
+pub repairs-laid : (s : Side) {w x w′ : List ℕ} → x ≡ w → Repairs s x w′ → Repairs s w w′
+repairs-laid s e r st b q = r st b (e ∙ q)

@@ -18,8 +18,7 @@ use Rattle.model.proofs.Lists.{once-each}
 use Rattle.model.proofs.Blocks.{numbersIn, times-blocks}
 use Rattle.model.proofs.Decode.{stateOf}
 use Rattle.model.proofs.Border.{LastKids, EndKids, Bordered}
-use Rattle.border.specs.Borders.{Bordering}
-use Rattle.borders.specs.Laying.{ShortOn}
+use Rattle.border.specs.Borders.{Bordering, ShortOn}
 use Rattle.borders.proofs.Tests.{Test, both, so, always, never, le, same, sameWords, each, eachBelow}
 
 -- ---- sizes

@@ -8,7 +8,8 @@ ghost use mathlib.Core.Path.{_≡_};
 ghost use Prim.Native.Nat.{_≤_};
 ghost use lib.ListN.{length};
 ghost use Rattle.model.specs.Insert.{left, right};
-ghost use Rattle.borders.specs.Laying.{Mends, ShortOn, wordOf, wordsIn};
+ghost use Rattle.border.specs.Borders.{ShortOn, Repairs};
+ghost use Rattle.borders.specs.Laying.{wordOf, wordsIn};
 
 // The words of 16 nodes.
 const LONG: usize = 618;
@@ -38,7 +39,7 @@ fn lay(a: &mut [u64], s: &[u8])
 // Lays them, repairs the right border and prints all words.
 fn mend_right(a: &mut [u64], s: &[u8])
     requires { ⌜ (length (now a) ≡ length (now s)) × ShortOn right (wordsIn (now s)) ⌝ }
-    ensures { λ _. ⌜ Mends right (wordsIn (now (s .entry))) (now (a .exit)) ⌝ }
+    ensures { λ _. ⌜ Repairs right (wordsIn (now (s .entry))) (now (a .exit)) ⌝ }
 {
     lay(a, s);
     fix_right_border(a);
@@ -48,7 +49,7 @@ fn mend_right(a: &mut [u64], s: &[u8])
 // The same of the left border.
 fn mend_left(a: &mut [u64], s: &[u8])
     requires { ⌜ (length (now a) ≡ length (now s)) × ShortOn left (wordsIn (now s)) ⌝ }
-    ensures { λ _. ⌜ Mends left (wordsIn (now (s .entry))) (now (a .exit)) ⌝ }
+    ensures { λ _. ⌜ Repairs left (wordsIn (now (s .entry))) (now (a .exit)) ⌝ }
 {
     lay(a, s);
     fix_left_border(a);

@@ -31,9 +31,9 @@ ghost use mathlib.Core.Path.{_≡_};
 ghost use Prim.Native.Nat.{_<_, _≤_};
 ghost use lib.ListN.{length};
 ghost use Rattle.model.specs.Layout.{Sized, most};
-ghost use Rattle.model.specs.State as model;
 ghost use Rattle.model.specs.WellFormed.{WellFormed, rootFewest};
-ghost use Rattle.model.specs.Promise.{Call};
+ghost use Rattle.model.specs.Public.{Promised};
+ghost use Rattle.model.specs.Public as promise;
 ghost use Rattle.node.specs.Reading.{Within};
 ghost use Rattle.inspect.specs.Tests.{Decides, reached};
 ghost use Rattle.checker.specs.Walks.{Said, keyTask, keysTask, childOf, edgesTask, nodeTask};
@@ -258,7 +258,7 @@ pub fn well_formed(a: &[u64]) -> bool
 
 // Answers Done for a well-formed arena, BadArena for any other words.
 pub fn check(a: &[u64]) -> Answer
-    ensures { λ r. ⌜ Call model.check (now (a .entry)) (now (a .entry)) r ⌝ }
+    ensures { λ r. ⌜ Promised promise.check (now (a .entry)) (now (a .entry)) tt r ⌝ }
 {
     if !well_formed(a) {
         return Answer::BadArena;

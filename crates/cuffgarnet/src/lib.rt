@@ -1,6 +1,7 @@
 // The library that Rust and C link: the public calls under C's names, u64 throughout, a slice as its pointer and its length. A call returns
 // its answer's number; what comes with the number is written through a pointer to one word.
 use batch::batch;
+use batch::order;
 use checker::check;
 use checker::well_formed;
 use format::format;
@@ -17,8 +18,9 @@ ghost use mathlib.Core.Path.{_≡_};
 ghost use Prim.Native.Nat.{ℕ};
 ghost use mathlib.Core.Bool.{false};
 ghost use mathlib.Core.List.{List};
-ghost use Rattle.model.specs.State as model;
-ghost use Rattle.model.specs.Promise.{Call, Format, Batch, Restore};
+ghost use Rattle.model.specs.Public.{Promised};
+ghost use Rattle.model.specs.Public as promise;
+ghost use Rattle.batch.specs.Orders.{orderOf};
 ghost use Rattle.cuffgarnet.specs.declared.Bound.the-variants.{Unknown};
 ghost use Rattle.cuffgarnet.specs.Exported.{Numbered, Worded, Told, boundOf, Between};
 
@@ -31,7 +33,7 @@ pub enum Bound {
 // Formats the words.
 #[no_mangle]
 pub extern "C" fn cuffgarnet_format(arena: &mut [u64]) -> u64
-    ensures { λ r. ⌜ Numbered (Format (now (arena .entry)) (now (arena .exit))) r ⌝ }
+    ensures { λ r. ⌜ Numbered (Promised promise.format (now (arena .entry)) (now (arena .exit)) tt) r ⌝ }
 {
     let made = format(arena);
     made.number()
@@ -40,7 +42,7 @@ pub extern "C" fn cuffgarnet_format(arena: &mut [u64]) -> u64
 // Whether the words are a well-formed arena.
 #[no_mangle]
 pub extern "C" fn cuffgarnet_check(arena: &[u64]) -> u64
-    ensures { λ r. ⌜ Numbered (Call model.check (now (arena .entry)) (now (arena .entry))) r ⌝ }
+    ensures { λ r. ⌜ Numbered (Promised promise.check (now (arena .entry)) (now (arena .entry)) tt) r ⌝ }
 {
     let sound = check(arena);
     sound.number()
@@ -49,7 +51,7 @@ pub extern "C" fn cuffgarnet_check(arena: &[u64]) -> u64
 // The value of a key.
 #[no_mangle]
 pub extern "C" fn cuffgarnet_get(arena: &[u64], key: u64, second: &mut u64) -> u64
-    ensures { λ r. ⌜ Worded (Call (model.get key) (now (arena .entry)) (now (arena .entry))) r (now (second .exit)) ⌝ }
+    ensures { λ r. ⌜ Worded (Promised (promise.get key) (now (arena .entry)) (now (arena .entry)) tt) r (now (second .exit)) ⌝ }
 {
     let found = get(arena, key);
     *second = found.word();
@@ -59,7 +61,7 @@ pub extern "C" fn cuffgarnet_get(arena: &[u64], key: u64, second: &mut u64) -> u
 // Puts a pair.
 #[no_mangle]
 pub extern "C" fn cuffgarnet_put(arena: &mut [u64], key: u64, value: u64, second: &mut u64) -> u64
-    ensures { λ r. ⌜ Worded (Call (model.put key value) (now (arena .entry)) (now (arena .exit))) r (now (second .exit)) ⌝ }
+    ensures { λ r. ⌜ Worded (Promised (promise.put key value) (now (arena .entry)) (now (arena .exit)) tt) r (now (second .exit)) ⌝ }
 {
     let former = put(arena, key, value);
     *second = former.word();
@@ -69,11 +71,27 @@ pub extern "C" fn cuffgarnet_put(arena: &mut [u64], key: u64, value: u64, second
 // Takes the pair of a key out.
 #[no_mangle]
 pub extern "C" fn cuffgarnet_delete(arena: &mut [u64], key: u64, second: &mut u64) -> u64
-    ensures { λ r. ⌜ Worded (Call (model.delete key) (now (arena .entry)) (now (arena .exit))) r (now (second .exit)) ⌝ }
+    ensures { λ r. ⌜ Worded (Promised (promise.delete key) (now (arena .entry)) (now (arena .exit)) tt) r (now (second .exit)) ⌝ }
 {
     let gone = delete(arena, key);
     *second = gone.word();
     gone.number()
+}
+
+// Runs one order by its code.
+#[no_mangle]
+pub extern "C" fn cuffgarnet_order(
+    arena: &mut [u64],
+    code: u64,
+    key: u64,
+    value: u64,
+    second: &mut u64,
+) -> u64
+    ensures { λ r. ⌜ Worded (Promised (promise.order (orderOf code key value)) (now (arena .entry)) (now (arena .exit)) tt) r (now (second .exit)) ⌝ }
+{
+    let run = order(arena, code, key, value);
+    *second = run.word();
+    run.number()
 }
 
 // The bound of a kind.
@@ -151,7 +169,7 @@ pub extern "C" fn cuffgarnet_list(
 // Runs a batch of orders.
 #[no_mangle]
 pub extern "C" fn cuffgarnet_batch(arena: &mut [u64], orders: &[u64], answers: &mut [u64]) -> u64
-    ensures { λ r. ⌜ Numbered (Batch (now (orders .entry)) (now (arena .entry)) (now (arena .exit)) (now (answers .entry)) (now (answers .exit))) r ⌝ }
+    ensures { λ r. ⌜ Numbered (Promised (promise.batch (now (orders .entry)) (now (answers .entry))) (now (arena .entry)) (now (arena .exit)) (now (answers .exit))) r ⌝ }
 {
     let ran = batch(arena, orders, answers);
     ran.number()
@@ -160,7 +178,7 @@ pub extern "C" fn cuffgarnet_batch(arena: &mut [u64], orders: &[u64], answers: &
 // Restores an image; the mark stays.
 #[no_mangle]
 pub extern "C" fn cuffgarnet_restore(arena: &mut [u64], image: &[u64]) -> u64
-    ensures { λ r. ⌜ Numbered (Restore (now (arena .entry)) (now (arena .exit)) (now (image .entry))) r ⌝ }
+    ensures { λ r. ⌜ Numbered (Promised (promise.restore (now (image .entry))) (now (arena .entry)) (now (arena .exit)) tt) r ⌝ }
 {
     let restored = restore(arena, image);
     restored.number()

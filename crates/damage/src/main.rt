@@ -6,10 +6,13 @@ use format::format;
 use model::Answer;
 use node::NONE;
 use slices::clear;
+use std::num::wrapping_add_u64;
 use telling::say_line;
 ghost use mathlib.Core.Path.{_≡_};
 ghost use Prim.Native.Nat.{_+_, _<_, _≤_};
-ghost use lib.ListN.{length};
+ghost use lib.ListN.{length, getD};
+ghost use Rattle.model.specs.Answer.{numbersOf};
+ghost use Rattle.damage.specs.Kinds.{digitOf, wordOf, wrongs};
 
 // The words of five nodes.
 const LONG: usize = 200;
@@ -17,7 +20,12 @@ const LONG: usize = 200;
 // How many values each word is damaged with.
 const KINDS: usize = 14;
 
-fn digit(r: Answer) -> u8 {
+// The largest word: it takes one away from any other that it is added to.
+const MOST: u64 = 18_446_744_073_709_551_615;
+
+fn digit(r: Answer) -> u8
+    ensures { λ d. ⌜ d ≡ digitOf ((numbersOf r) .number) ⌝ }
+{
     match r.number() {
         0 => b'0',
         4 => b'4',
@@ -27,23 +35,13 @@ fn digit(r: Answer) -> u8 {
 }
 
 // The value with which damage number j replaces v.
-fn wrong(v: u64, j: usize) -> u64 {
-    match j {
-        0 => std::num::wrapping_add_u64(v, 1),
-        1 => std::num::wrapping_sub_u64(v, 1),
-        2 => 0,
-        3 => 1,
-        4 => 2,
-        5 => 3,
-        6 => 4,
-        7 => 5,
-        8 => 6,
-        9 => 7,
-        10 => 11,
-        11 => 12,
-        12 => NONE,
-        _ => 18_446_744_073_709_551_615,
-    }
+fn wrong(v: u64, j: usize) -> u64
+    requires { ⌜ j < 14 ⌝ }
+    ensures { λ r. ⌜ r ≡ getD (wrongs v) j 0 ⌝ }
+{
+    let more = wrapping_add_u64(v, 1);
+    let less = wrapping_add_u64(v, MOST);
+    [more, less, 0, 1, 2, 3, 4, 5, 6, 7, 11, 12, NONE, MOST][j]
 }
 
 // The answers for the arena with its word i damaged in each way; the word is then what it was.
@@ -63,8 +61,13 @@ fn damage(a: &mut [u64], i: usize)
 }
 
 // The word that a byte of a table stands for: 255 for NONE.
-fn word(x: u8) -> u64 {
-    if x == 255 { NONE } else { x as u64 }
+fn word(x: u8) -> u64
+    ensures { λ r. ⌜ r ≡ wordOf x ⌝ }
+{
+    if x == 255 {
+        return NONE;
+    }
+    x as u64
 }
 
 // The words of a table, from `at` on.

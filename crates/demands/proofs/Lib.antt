@@ -1,7 +1,7 @@
 pub mod Reading
+pub mod Orders
 pub mod Steps
-pub mod Spent
-pub mod Runs
-pub mod Histories
-pub mod Maps
-pub mod OneEnds
+pub mod Marks
+pub mod Lawful
+pub mod Calls
+pub mod Every

@@ -1,53 +1,49 @@
--- Each call on a sound state, beside the plain list: the list and the mark that it leaves, by its answer; the count of nodes stays.
+-- Each call on a sound state, beside the plain list: what it answers, the list and the mark that it leaves; the count of nodes stays.
 -- Assumes nothing.
 use Prim.Native.Nat.{ℕ}
-use native.Mathlib.Omega.{arith}
-use mathlib.Core.Path.{_≡_, refl, sym, ap, _∙_}
-use mathlib.Core.Logic.{⊎-elim}
-use mathlib.Core.Bool.{Bool, true, false, cond}
+use mathlib.Core.Path.{_≡_, refl, sym, ap, subst, _∙_}
+use mathlib.Core.Logic.{_⊎_, inl, inr, ⊎-elim}
+use mathlib.Core.Bool.{Bool, true, false, cond, not, _&&_}
 use mathlib.Core.List.{List, [], _∷_}
 use mathlib.Core.Option.{Option, some, none}
 use lib.Dec.{leb}
 use lib.ListN.{length}
-use borrow.Author.Tests.{eq-eqb, ne-eqb}
 use Rattle.model.specs.declared.Answer.{Answer}
+use Rattle.model.specs.declared.Answer.the-variants.{NoRoom}
 use Rattle.model.specs.Tree.{Ctx}
 use Rattle.model.specs.Search.{Spot, at, gap, search}
 use Rattle.model.specs.Insert.{needed}
 use Rattle.model.specs.Map.{look, got, replaced}
-use Rattle.model.specs.State.{State, Order, list, get, putAt, put, deleteAt, delete, putCode, getCode, deleteCode, order, afterAll, answers}
+use Rattle.model.specs.Answer.{numbersOf}
+use Rattle.model.specs.State.{State, Reply, Order, list, get, putAt, put, deleteAt, delete, putCode, getCode, deleteCode, order, afterAll, answers}
 use Rattle.model.specs.Sound.{Sound}
-use Rattle.model.proofs.Calls.{get-map, NoneLeft, Put, put-map, delete-map, order-cases, order-sound}
-use Rattle.demands.specs.Asked.{accepted}
-use Rattle.demands.specs.Plain.{Plain, putTo, deleteFrom, ordered, orderedAll}
+use Rattle.model.proofs.Descent.{Sought, search-right}
+use Rattle.model.proofs.Calls.{look-gap, get-map, NoneLeft, Put, put-map, delete-map, order-cases, order-sound}
+use Rattle.demands.specs.Plain.{Plain, Made, only, isNone, putTo, getFrom, deleteFrom, ordered, orderedAll, roomBy, roomsBy}
+use Rattle.demands.specs.Call.{refusal}
+use Rattle.demands.specs.Calls.{OrderRefusal}
+use Rattle.demands.proofs.Reading.{plainOf}
+use Rattle.demands.proofs.Orders.{both-ways, ordered-put, ordered-get, ordered-delete, ordered-other, ordered-cases, with-room, put-none}
 
-abbrev pub plainOf : State → Plain
-plainOf s = record { pairs = list s; mark = s .mark }
+-- a reply on the state s is what is made of the plain list; refused, it left the state
+pub record Meets (s : State) (d : Reply) (m : Made Answer) : Type 0 where
+  pub answered : d .answer ≡ m .said
+  pub plain-is : plainOf (d .state) ≡ m .plain
+  pub sound : Sound (d .state)
+  pub size-is : d .state .size ≡ s .size
+  pub still : refusal (d .answer) ≡ true → d .state ≡ s
 
--- what an accepted call does; refused, nothing
-abbrev pub When : Answer → (Plain → Plain) → Plain → Plain
-When r f p = cond (accepted r) (f p) p
+replaced-done : (x : Option ℕ) → refusal (replaced x) ≡ false
+replaced-done none = refl
+replaced-done (some v) = refl
 
--- ---- the answers of an accepted put and delete
+got-done : (x : Option ℕ) → refusal (got x) ≡ false
+got-done none = refl
+got-done (some v) = refl
 
-pub replaced-accepted : (x : Option ℕ) → accepted (replaced x) ≡ true
-replaced-accepted none = refl
-replaced-accepted (some v) = refl
+-- ---- put, get, delete
 
-pub got-accepted : (x : Option ℕ) → accepted (got x) ≡ true
-got-accepted none = refl
-got-accepted (some v) = refl
-
--- ---- put, delete, a single order
-
-module _ (k v : ℕ) (s : State) (o : Sound s) where
-  pub put-plain : plainOf ((put k v s) .state) ≡ When ((put k v s) .answer) (putTo k v) (plainOf s)
-  put-plain = ⊎-elim
-      (λ (n : NoneLeft k s (put k v s)). rw (n .refused))
-      (λ (p : Put k v s (put k v s)). (λ i. record { pairs = p .inserted i; mark = p .spent i }) ∙ sym (ap (λ b. cond b (putTo k v (plainOf s)) (plainOf s)) (ap accepted (p .answered) ∙ replaced-accepted (look k (list s)))))
-      (put-map k v s o)
-
-pub put-size : (k v : ℕ) (s : State) → (put k v s) .state .size ≡ s .size
+put-size : (k v : ℕ) (s : State) → (put k v s) .state .size ≡ s .size
 put-size k v s = go (search k (s .whole))
   where
     room : (c : Ctx 0) (b : Bool) → leb (needed c) (length (s .free)) ≡ b → (putAt k v s (gap c)) .state .size ≡ s .size
@@ -58,51 +54,121 @@ put-size k v s = go (search k (s .whole))
     go (gap c) = room c (leb (needed c) (length (s .free))) refl
     go (at c n l e x r) = refl
 
-module _ (k : ℕ) (s : State) (o : Sound s) where
-  pub delete-plain : plainOf ((delete k s) .state) ≡ When ((delete k s) .answer) (deleteFrom k) (plainOf s)
-  delete-plain =
-      let d = delete-map k s o in
-      (λ i. record { pairs = d .removed i; mark = d .mark-same i }) ∙ sym (ap (λ b. cond b (deleteFrom k (plainOf s)) (plainOf s)) (ap accepted (d .answered) ∙ got-accepted (look k (list s))))
-
-pub delete-size : (k : ℕ) (s : State) → (delete k s) .state .size ≡ s .size
+delete-size : (k : ℕ) (s : State) → (delete k s) .state .size ≡ s .size
 delete-size k s = go (search k (s .whole))
   where
     go : (p : Spot) → (deleteAt s p) .state .size ≡ s .size
     go (gap c) = refl
     go (at c n l e x r) = refl
 
--- an order on the plain list is the call of its code
-module _ (r : Order) (p : Plain) where
-  ordered-put : r .code ≡ putCode → ordered r p ≡ putTo (r .key) (r .val) p
-  ordered-put e = rw (eq-eqb (r .code) putCode e)
+module _ (k : ℕ) (s : State) (o : Sound s) where
+  pub get-meets : Meets s (get k s) (getFrom k (plainOf s))
+  get-meets = rw (get-map k s o) (record { answered = refl; plain-is = refl; sound = o; size-is = refl; still = λ e. refl })
 
-  ordered-get : r .code ≡ getCode → ordered r p ≡ p
-  ordered-get e = rw (ne-eqb (r .code) putCode (λ z. omega arith), ne-eqb (r .code) deleteCode (λ z. omega arith))
+  pub delete-meets : Meets s (delete k s) (deleteFrom k (plainOf s))
+  delete-meets =
+      let d = delete-map k s o in
+      record {
+        answered = d .answered;
+        plain-is = λ i. record { pairs = d .removed i; mark = d .mark-same i };
+        sound = d .sound;
+        size-is = delete-size k s;
+        still = λ e. both-ways e (ap refusal (d .answered) ∙ got-done (look k (list s)));
+      }
 
-  ordered-delete : r .code ≡ deleteCode → ordered r p ≡ deleteFrom (r .key) p
-  ordered-delete e = rw (ne-eqb (r .code) putCode (λ z. omega arith), eq-eqb (r .code) deleteCode e)
+  -- an absent key
+  pub none-there : {d : Reply} → NoneLeft k s d → look k (list s) ≡ none
+  none-there l = look-gap s (l .edge) k (subst (Sought k (s .whole)) (l .found) (search-right k (s .whole) (o .rising)))
 
-either : {A : Type 0} (b : Bool) {x y : A} → x ≡ y → y ≡ cond b x y
-either true e = sym e
-either false e = refl
+  pub put-meets : (v : ℕ) → NoneLeft k s (put k v s) ⊎ Meets s (put k v s) (putTo true k v (plainOf s))
+  put-meets v = ⊎-elim
+      (λ (n : NoneLeft k s (put k v s)). inl n)
+      (λ (p : Put k v s (put k v s)). inr (record {
+        answered = p .answered;
+        plain-is = λ i. record { pairs = p .inserted i; mark = p .spent i };
+        sound = p .sound;
+        size-is = put-size k v s;
+        still = λ e. both-ways e (ap refusal (p .answered) ∙ replaced-done (look k (list s)));
+      }))
+      (put-map k v s o)
+
+-- ---- an order
+
+-- a put that lacks nodes
+pub record NoneFor (r : Order) (s : State) (d : Reply) : Type 0 where
+  pub a-put : r .code ≡ putCode
+  pub none-left : NoneLeft (r .key) s d
 
 module _ (r : Order) (s : State) (o : Sound s) where
-  pub order-plain : plainOf ((order r s) .state) ≡ When ((order r s) .answer) (ordered r) (plainOf s)
-  order-plain = order-cases r s (λ d. plainOf (d .state) ≡ When (d .answer) (ordered r) (plainOf s))
-      (λ e. put-plain (r .key) (r .val) s o ∙ ap (λ q. When ((put (r .key) (r .val) s) .answer) (λ p. q) (plainOf s)) (sym (ordered-put r (plainOf s) e)))
-      (λ e. ap (λ d. plainOf (d .state)) (get-map (r .key) s o) ∙ either (accepted ((get (r .key) s) .answer)) (ordered-get r (plainOf s) e))
-      (λ e. delete-plain (r .key) s o ∙ ap (λ q. When ((delete (r .key) s) .answer) (λ p. q) (plainOf s)) (sym (ordered-delete r (plainOf s) e)))
-      (λ a b c. refl)
+  pub order-meets : NoneFor r s (order r s) ⊎ Meets s (order r s) (ordered true r (plainOf s))
+  order-meets = order-cases r s (λ d. NoneFor r s d ⊎ Meets s d (ordered true r (plainOf s)))
+      (λ e. ⊎-elim
+      (λ (n : NoneLeft (r .key) s (put (r .key) (r .val) s)). inl (record { a-put = e; none-left = n }))
+      (λ (m : Meets s (put (r .key) (r .val) s) (putTo true (r .key) (r .val) (plainOf s))). inr (rw (ordered-put true r (plainOf s) e) m))
+      (put-meets (r .key) s o (r .val)))
+      (λ e. inr (rw (ordered-get true r (plainOf s) e) (get-meets (r .key) s o)))
+      (λ e. inr (rw (ordered-delete true r (plainOf s) e) (delete-meets (r .key) s o)))
+      (λ a b c. inr (rw (ordered-other true r (plainOf s) a b c) (record { answered = refl; plain-is = refl; sound = o; size-is = refl; still = λ e. refl })))
 
-  pub order-size : (order r s) .state .size ≡ s .size
-  order-size = order-cases r s (λ d. d .state .size ≡ s .size) (λ e. put-size (r .key) (r .val) s) (λ e. ap (λ d. d .state .size) (get-map (r .key) s o)) (λ e. delete-size (r .key) s) (λ a b c. refl)
+-- what an order answers tells whether it found room: so much, and the list, tell the answer and the next list
+pub record Told (s : State) (d : Reply) (m : Made Answer) : Type 0 where
+  pub answered : d .answer ≡ m .said
+  pub plain-is : plainOf (d .state) ≡ m .plain
+
+pub order-told : (r : Order) (s : State) → Sound s → Told s (order r s) (ordered (roomBy ((numbersOf ((order r s) .answer)) .number)) r (plainOf s))
+order-told r s o = ⊎-elim lacking done (order-meets r s o)
+  where
+    Goal : Bool → Reply → Type 0
+    Goal b d = Told s d (ordered b r (plainOf s))
+
+    none-made : NoneFor r s (order r s) → ordered false r (plainOf s) ≡ only NoRoom (plainOf s)
+    none-made n = ordered-put false r (plainOf s) (n .a-put) ∙ put-none (r .key) (r .val) (plainOf s) (none-there (r .key) s o (n .none-left))
+
+    lacking : NoneFor r s (order r s) → Goal (roomBy ((numbersOf ((order r s) .answer)) .number)) (order r s)
+    lacking n = rw (n .none-left .refused) (rw (none-made n) (record { answered = refl; plain-is = refl }))
+
+    done : Meets s (order r s) (ordered true r (plainOf s)) → Goal (roomBy ((numbersOf ((order r s) .answer)) .number)) (order r s)
+    done m =
+        let e : roomBy ((numbersOf ((order r s) .answer)) .number) ≡ true = ap (λ a. roomBy ((numbersOf a) .number)) (m .answered) ∙ with-room r (plainOf s) in
+        subst (λ b. Goal b (order r s)) (sym e) (record { answered = m .answered; plain-is = m .plain-is })
+
+-- refused, it lacks nodes, or its code is unknown
+abbrev Refuses : Answer → Type 0
+Refuses a = refusal a ≡ true → OrderRefusal a
+
+ordered-refuses : (b : Bool) (r : Order) (p : Plain) → Refuses ((ordered b r p) .said)
+ordered-refuses b r p =
+    let x = look (r .key) (p .pairs) in
+    ordered-cases b r p (λ m. Refuses (m .said)) (by (not b && isNone x) (putTo true (r .key) (r .val) p) (replaced-done x)) (λ e. both-ways e (got-done x)) (λ e. both-ways e (got-done x)) (λ e. inr refl)
+  where
+    by : (c : Bool) (m : Made Answer) → refusal (m .said) ≡ false → Refuses ((cond c (only NoRoom p) m) .said)
+    by true m f e = inl refl
+    by false m f e = both-ways e f
+
+pub order-refuses : (r : Order) (s : State) → Sound s → Refuses ((order r s) .answer)
+order-refuses r s o = subst Refuses (sym ((order-told r s o) .answered)) (ordered-refuses (roomBy ((numbersOf ((order r s) .answer)) .number)) r (plainOf s))
 
 -- ---- a batch
 
-pub batch-plain : (os : List Order) (s : State) → Sound s → plainOf (afterAll os s) ≡ orderedAll os (answers os s) (plainOf s)
-batch-plain [] s o = refl
-batch-plain (r ∷ os) s o = batch-plain os ((order r s) .state) (order-sound r s o) ∙ ap (orderedAll os (answers os ((order r s) .state))) (order-plain r s o)
+pub order-size : (r : Order) (s : State) → Sound s → (order r s) .state .size ≡ s .size
+order-size r s o = ⊎-elim (λ (n : NoneFor r s (order r s)). ap (λ (d : Reply). d .state .size) (n .none-left .refused)) (λ (m : Meets s (order r s) (ordered true r (plainOf s))). m .size-is) (order-meets r s o)
 
 pub batch-size : (os : List Order) (s : State) → Sound s → (afterAll os s) .size ≡ s .size
 batch-size [] s o = refl
 batch-size (r ∷ os) s o = batch-size os ((order r s) .state) (order-sound r s o) ∙ order-size r s o
+
+abbrev foldOf : List Order → State → Made (List ℕ)
+foldOf os s = orderedAll (roomsBy (answers os s)) os (plainOf s)
+
+pub batch-plain : (os : List Order) (s : State) → Sound s → plainOf (afterAll os s) ≡ (foldOf os s) .plain
+batch-plain [] s o = refl
+batch-plain (r ∷ os) s o =
+    let t = (order r s) .state in
+    batch-plain os t (order-sound r s o) ∙ ap (λ p. (orderedAll (roomsBy (answers os t)) os p) .plain) ((order-told r s o) .plain-is)
+
+pub batch-said : (os : List Order) (s : State) → Sound s → answers os s ≡ (foldOf os s) .said
+batch-said [] s o = refl
+batch-said (r ∷ os) s o =
+    let t = (order r s) .state in
+    let m = order-told r s o in
+    (λ i. (numbersOf (m .answered i)) .number ∷ (numbersOf (m .answered i)) .word ∷ (batch-said os t (order-sound r s o) ∙ ap (λ p. (orderedAll (roomsBy (answers os t)) os p) .said) (m .plain-is)) i)

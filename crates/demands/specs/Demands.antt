@@ -1,24 +1,37 @@
--- The demands on the whole index, each as one statement: proved in proofs/ as Maps.as-the-map, Histories.any-history, OneEnds.one-end.
+-- The demands on the whole index, each as one statement over every public call: proved in proofs/ as Every.as-the-map, Every.any-history, Every.one-end.
 -- Assumes nothing.
 use Prim.Native.Nat.{ℕ}
 use mathlib.Core.Path.{_≡_}
-use mathlib.Core.Bool.{false}
-use mathlib.Core.List.{List}
-use Rattle.demands.specs.Asked.{Asked, Said, Does, Public, Hands, Promised, accepted, answerOf, lentBefore, lentAfter}
-use Rattle.demands.specs.History.{Turn, Fresh, Run, Kept, NotLower}
-use Rattle.demands.specs.Answers.{ByMap}
+use mathlib.Core.Bool.{true, false}
+use mathlib.Core.List.{List, [], _∷_}
+use lib.ListN.{length}
+use Rattle.model.specs.Layout.{base, header, countWord}
+use Rattle.model.specs.Mark.{storedMark}
+use Rattle.model.specs.WellFormed.{WellFormed}
+use Rattle.model.specs.Public.{Promised}
+use Rattle.demands.specs.Plain.{bringing}
+use Rattle.demands.specs.Stored.{held}
+use Rattle.demands.specs.Call.{Call, Unchanged, ByMap}
+use Rattle.demands.specs.Public.{Public}
+use Rattle.demands.specs.History.{Turn, Run, Standing, after, afterAll, Kept, NotLower}
 
 -- demand 2: whatever a public call ends in is what the ordered map answers, room aside; BadRange exactly where its range panics
-abbrev pub AsTheMap : Type 0
-AsTheMap = (c : Public) (w w′ : List ℕ) (r : Hands c) → Promised c w w′ r → ByMap c w w′ r
+abbrev pub AsTheMap : Type 1
+AsTheMap = (c : Call) → Public c → (w w′ : List ℕ) (l : c .promise .Lent) (r : c .promise .Said) → Promised (c .promise) w w′ l r → ByMap c w w′ l r
 
--- demand 3: after any history the arena is well-formed and holds what the accepted calls make of a plain list with a mark; a refused call
--- changes no lent word; no call lowers the mark
-pub record AnyHistory : Type 0 where
-  pub kept : (n : ℕ) (w₀ : List ℕ) (ts : List Turn) (w : List ℕ) → Fresh n w₀ → Run ts w₀ w → Kept n ts w
-  pub refused-same : (c : Asked) (w w′ : List ℕ) (r : Said c) → Does c w w′ r → accepted (answerOf c r) ≡ false → (w′ ≡ w) × (lentAfter c r ≡ lentBefore c)
-  pub not-lowered : (c : Asked) (w w′ : List ℕ) (r : Said c) → Does c w w′ r → NotLower w w′
+-- demand 3
+pub record AnyHistory : Type 1 where
+  -- a call that begins a history, and is not refused, leaves the list and the mark that it makes, whatever words it found
+  pub begun : (n : ℕ) (t : Turn) (s : Standing) (w w′ : List ℕ) → t .call .begins ≡ true → t .call .speech .refused (t .said) ≡ false → length w ≡ base n → Run (t ∷ []) w w′ → Kept n (after t s) w′
+  -- and an arena that is found well-formed begins one with what it holds
+  pub found : (w : List ℕ) → WellFormed w → Kept (header w countWord) (record { plain = held w; spent = bringing (storedMark w) }) w
+  -- after any calls the arena is well-formed and holds what the accepted ones make of the plain list with its mark
+  pub kept : (n : ℕ) (s : Standing) (ts : List Turn) (w w′ : List ℕ) → Kept n s w → Run ts w w′ → Kept n (afterAll ts s) w′
+  -- a refused call changes no lent word
+  pub refused-same : (c : Call) → Public c → (w w′ : List ℕ) (l : c .promise .Lent) (r : c .promise .Said) → Promised (c .promise) w w′ l r → c .speech .refused r ≡ true → Unchanged c w w′ l
+  -- no call lowers the mark, but one that begins a new history
+  pub not-lowered : (c : Call) → Public c → c .begins ≡ false → (w w′ : List ℕ) (l : c .promise .Lent) (r : c .promise .Said) → Promised (c .promise) w w′ l r → NotLower w w′
 
--- any two ends of one public call from the same words are the same: the arena, the answer, the other lent slice
-abbrev pub OneEnd : Type 0
-OneEnd = (c : Public) (w w₁ w₂ : List ℕ) (r₁ r₂ : Hands c) → Promised c w w₁ r₁ → Promised c w w₂ r₂ → (w₁ ≡ w₂) × (r₁ ≡ r₂)
+-- any two ends of one public call from the same words are the same: the arena, the other lent slices, the answer
+abbrev pub OneEnd : Type 1
+OneEnd = (c : Call) → Public c → (w w₁ w₂ : List ℕ) (l₁ l₂ : c .promise .Lent) (r₁ r₂ : c .promise .Said) → Promised (c .promise) w w₁ l₁ r₁ → Promised (c .promise) w w₂ l₂ r₂ → (w₁ ≡ w₂) × (l₁ ≡ l₂) × (r₁ ≡ r₂)

@@ -1,18 +1,19 @@
--- The other side of a history: the accepted calls on a plain ascending list with a mark, and the keys that they spend.
+-- A plain ascending list with a mark, and what an order does to it: one function, of which a batch is the fold.
 -- Assumes nothing.
 use Prim.Native.Nat.{ℕ, _≤_}
 use mathlib.Core.Path.{_≡_}
-use mathlib.Core.Bool.{cond}
-use mathlib.Core.List.{List, [], _∷_, _++_}
+use mathlib.Core.Bool.{Bool, true, false, cond, not, _&&_}
+use mathlib.Core.List.{List, [], _∷_, _++_, map}
+use mathlib.Core.Option.{Option, some, none}
 use lib.Dec.{eqb}
-use lib.ListN.{drop, getD}
+use Rattle.model.specs.declared.Answer.{Answer}
+use Rattle.model.specs.declared.Answer.the-variants.{Done, NoRoom, BadOrder}
 use Rattle.model.specs.Lists.{All, times}
 use Rattle.model.specs.Tree.{Pair}
-use Rattle.model.specs.Mark.{Mark, unseen, seen, higher, spend}
-use Rattle.model.specs.Map.{insert, remove}
-use Rattle.model.specs.State.{Order, putCode, deleteCode, triples}
-use Rattle.demands.specs.Stored.{stored, storedMark}
-use Rattle.demands.specs.Asked.{Asked, check, get, put, delete, order, list, batch, restore, Said, acceptedNo, accepted}
+use Rattle.model.specs.Mark.{Mark, unseen, seen, spend}
+use Rattle.model.specs.Map.{look, insert, remove, got, replaced}
+use Rattle.model.specs.Answer.{numbersOf}
+use Rattle.model.specs.State.{Order, putCode, getCode, deleteCode}
 
 pub record Plain : Type 0 where
   pub pairs : List Pair
@@ -21,63 +22,85 @@ pub record Plain : Type 0 where
 abbrev pub empty : Plain
 empty = record { pairs = []; mark = unseen }
 
--- ---- what an accepted call does
+-- a key that raises the mark: it was put, or it came as a mark from elsewhere
+pub data Spent : Type 0 where
+  put : ℕ → Spent
+  brought : ℕ → Spent
 
-abbrev pub putTo : ℕ → ℕ → Plain → Plain
-putTo k v p = record { pairs = insert k v (p .pairs); mark = spend k (p .mark) }
+abbrev pub keyOf : Spent → ℕ
+keyOf (put k) = k
+keyOf (brought k) = k
 
-abbrev pub deleteFrom : ℕ → Plain → Plain
-deleteFrom k p = record { pairs = remove k (p .pairs); mark = p .mark }
+-- a mark that has seen nothing brings no key
+abbrev pub bringing : Mark → List Spent
+bringing unseen = []
+bringing (seen m) = brought m ∷ []
 
--- an order: by its code; a get changes nothing
-abbrev pub ordered : Order → Plain → Plain
-ordered o p = cond (eqb (o .code) putCode) (putTo (o .key) (o .val) p) (cond (eqb (o .code) deleteCode) (deleteFrom (o .key) p) p)
+-- what a call makes of a plain list: what it says, the list and the mark afterwards, the keys that it spent, oldest first
+pub record Made (A : Type 0) : Type 0 where
+  pub said : A
+  pub plain : Plain
+  pub spent : List Spent
 
--- a batch's orders in turn, by its answers, two words an order, of which the first is the number: a refused order changes nothing
-abbrev pub orderedAll : List Order → List ℕ → Plain → Plain
-orderedAll [] a p = p
-orderedAll (o ∷ os) a p = orderedAll os (drop 2 a) (cond (acceptedNo (getD a 0 0)) (ordered o p) p)
+-- it says so, and nothing else happens
+abbrev pub only : {A : Type 0} → A → Plain → Made A
+only a p = record { said = a; plain = p; spent = [] }
 
--- the image's pairs, and the larger of the marks seen
-abbrev pub restoreTo : List ℕ → Plain → Plain
-restoreTo i p = record { pairs = stored i; mark = higher (p .mark) (storedMark i) }
+-- ---- an order
 
--- a call with what it said: refused, it changes nothing, nor does one that only reads
-abbrev pub after : (c : Asked) → Said c → Plain → Plain
-after check r p = p
-after (get k) r p = p
-after (put k v) r p = cond (accepted r) (putTo k v p) p
-after (delete k) r p = cond (accepted r) (deleteFrom k p) p
-after (order o) r p = cond (accepted r) (ordered o p) p
-after (list q o) r p = p
-after (batch b a) r p = cond (accepted (r .answer)) (orderedAll (triples b) (r .lent) p) p
-after (restore i) r p = cond (accepted r) (restoreTo i p) p
+abbrev pub isNone : Option ℕ → Bool
+isNone none = true
+isNone (some v) = false
 
--- ---- the keys that accepted puts named, and the marks that restored images brought
+-- `room` says whether a new key finds room: the one thing that a plain list cannot know
+abbrev pub putTo : (room : Bool) → (key val : ℕ) → Plain → Made Answer
+putTo room k v p =
+    cond (not room && isNone (look k (p .pairs))) (only NoRoom p)
+    (record { said = replaced (look k (p .pairs)); plain = record { pairs = insert k v (p .pairs); mark = spend k (p .mark) }; spent = put k ∷ [] })
 
-abbrev pub spentOn : Order → List ℕ
-spentOn o = cond (eqb (o .code) putCode) (o .key ∷ []) []
+abbrev pub getFrom : ℕ → Plain → Made Answer
+getFrom k p = only (got (look k (p .pairs))) p
 
-abbrev pub spentAll : List Order → List ℕ → List ℕ
-spentAll [] a = []
-spentAll (o ∷ os) a = cond (acceptedNo (getD a 0 0)) (spentOn o) [] ++ spentAll os (drop 2 a)
+abbrev pub deleteFrom : ℕ → Plain → Made Answer
+deleteFrom k p = record { said = got (look k (p .pairs)); plain = record { pairs = remove k (p .pairs); mark = p .mark }; spent = [] }
 
--- an image that has seen no mark brings none
-abbrev pub brought : Mark → List ℕ
-brought unseen = []
-brought (seen m) = m ∷ []
+abbrev pub ordered : (room : Bool) → Order → Plain → Made Answer
+ordered room o p =
+    cond (eqb (o .code) putCode) (putTo room (o .key) (o .val) p)
+    (cond (eqb (o .code) getCode) (getFrom (o .key) p)
+    (cond (eqb (o .code) deleteCode) (deleteFrom (o .key) p) (only BadOrder p)))
 
-abbrev pub spentBy : (c : Asked) → Said c → List ℕ
-spentBy check r = []
-spentBy (get k) r = []
-spentBy (put k v) r = cond (accepted r) (k ∷ []) []
-spentBy (delete k) r = []
-spentBy (order o) r = cond (accepted r) (spentOn o) []
-spentBy (list q o) r = []
-spentBy (batch b a) r = cond (accepted (r .answer)) (spentAll (triples b) (r .lent)) []
-spentBy (restore i) r = cond (accepted r) (brought (storedMark i)) []
+-- orders in turn, with one `room` for each; their answers, two words an order
+abbrev pub orderedAll : (rooms : List Bool) → List Order → Plain → Made (List ℕ)
+orderedAll rs [] p = only [] p
+orderedAll [] (o ∷ os) p = only [] p
+orderedAll (r ∷ rs) (o ∷ os) p =
+    let d = ordered r o p in
+    let e = orderedAll rs os (d .plain) in
+    record { said = (numbersOf (d .said)) .number ∷ (numbersOf (d .said)) .word ∷ e .said; plain = e .plain; spent = d .spent ++ e .spent }
+
+-- which orders found room, as their answers tell: all but those with the number of NoRoom
+abbrev pub roomBy : ℕ → Bool
+roomBy n = not (eqb n ((numbersOf NoRoom) .number))
+
+abbrev pub roomsBy : (answers : List ℕ) → List Bool
+roomsBy [] = []
+roomsBy (n ∷ []) = []
+roomsBy (n ∷ v ∷ a) = roomBy n ∷ roomsBy a
+
+-- ---- the mark, by the keys spent
+
+-- the mark m, where these are spent in turn, becomes m′
+abbrev pub Raises : Mark → List Spent → Mark → Type 0
+Raises m [] m′ = m′ ≡ m
+Raises m (put k ∷ es) m′ = Raises (spend k m) es m′
+Raises m (brought k ∷ es) m′ = Raises (spend k m) es m′
 
 -- the mark is the greatest of these; unseen while there are none
 abbrev pub Greatest : List ℕ → Mark → Type 0
 Greatest ks unseen = ks ≡ []
 Greatest ks (seen m) = (1 ≤ times m ks) × All (λ (k : ℕ). k ≤ m) ks
+
+-- what holds of the keys spent and the mark
+pub record Spending (es : List Spent) (m : Mark) : Type 0 where
+  pub greatest : Greatest (map keyOf es) m

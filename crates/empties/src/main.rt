@@ -12,6 +12,7 @@ use telling::say_line;
 ghost use mathlib.Core.Path.{_≡_};
 ghost use Prim.Native.Nat.{_<_, _≤_};
 ghost use lib.ListN.{length};
+ghost use Rattle.empties.specs.Taking.{Taken};
 
 // The words of 150 nodes.
 const LONG: usize = 5710;
@@ -40,7 +41,9 @@ fn fill(a: &mut [u64], pairs: u64)
 }
 
 // Deletes one key, and mixes in what is answered and left.
-fn take(a: &mut [u64], key: u64, mix: u64) -> u64 {
+fn take(a: &mut [u64], key: u64, mix: u64) -> u64
+    ensures { λ r. ⌜ Taken key mix (now (a .entry)) (now (a .exit)) r ⌝ }
+{
     let r = delete(a, key);
     mix_words(mixed(mix, wrapping_add_u64(r.number(), r.word())), a)
 }

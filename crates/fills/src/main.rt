@@ -10,6 +10,7 @@ use telling::say;
 use telling::say_line;
 ghost use mathlib.Core.Path.{_≡_};
 ghost use Prim.Native.Nat.{_<_};
+ghost use Rattle.fills.specs.Filling.{Fills};
 
 // The words of 64 nodes.
 const LONG: usize = 2442;
@@ -25,6 +26,7 @@ fn tell(r: Answer) {
 // How many keys come in, each `step` after the last, until one finds no room.
 fn puts(a: &mut [u64], first: u64, step: u64) -> u64
     requires { ⌜ (first < 10007) × (step < 10007) ⌝ }
+    ensures { λ r. ⌜ Fills step (now (a .exit)) r first 0 (now (a .entry)) ⌝ }
 {
     let mut key = first;
     let mut i = 0;

@@ -12,7 +12,7 @@ use Rattle.model.specs.Mark.{seenOf, markOf}
 use Rattle.model.specs.State.{State, list}
 use Rattle.model.specs.Words.{rootNo, firstOr}
 use Rattle.model.specs.Remove.{pop, shrink}
-use Rattle.model.proofs.Sizes.{FullCtx, Short}
+use Rattle.model.specs.Sizes.{FullCtx, Short}
 use Rattle.standing.specs.Standing.{rootOf, Hole}
 use Rattle.standing.specs.Heads.{Rest, HoleIn, ClosedIn}
 use Rattle.fix.specs.declared.ParentKv.{ParentKv}

@@ -22,7 +22,8 @@ ghost use lib.ListN.{length, take};
 ghost use Rattle.model.specs.Layout.{Sized, base, cells, headerSize, largestCount, nodeSize, nodeWords};
 ghost use Rattle.model.specs.State.{formatted};
 ghost use Rattle.model.specs.Words.{firstOr, headerOf, wordsOf};
-ghost use Rattle.model.specs.Promise.{Format};
+ghost use Rattle.model.specs.Public.{Promised};
+ghost use Rattle.model.specs.Public as promise;
 ghost use Rattle.format.specs.Formatting.{Counted, chainAfter, emptyNode, freeNodes};
 
 // The most nodes.
@@ -109,7 +110,7 @@ fn write_all(a: &mut [u64], count: usize)
 
 // Formats the words; BadSize for a length that no arena has.
 pub fn format(a: &mut [u64]) -> Answer
-    ensures { λ r. ⌜ Format (now (a .entry)) (now (a .exit)) r ⌝ }
+    ensures { λ r. ⌜ Promised promise.format (now (a .entry)) (now (a .exit)) tt r ⌝ }
 {
     let count = node_count(a.len());
     if count == 0 {

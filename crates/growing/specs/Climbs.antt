@@ -8,11 +8,10 @@ use lib.ListN.{length}
 use Rattle.model.specs.Layout.{formatNumber, headerSize, largestHeight, NodeVal, Arena}
 use Rattle.model.specs.Tree.{Pair, Tree, Frame, Ctx, top, under}
 use Rattle.model.specs.Nodes.{untaken, Grown}
-use Rattle.model.specs.Insert.{isFull, rise, needed}
+use Rattle.model.specs.Insert.{isFull, rise, halved, needed}
 use Rattle.model.specs.Mark.{seenOf, markOf}
 use Rattle.model.specs.State.{State, list}
 use Rattle.model.specs.Words.{rootNo, firstOr}
-use Rattle.model.proofs.Climb.{halved}
 use Rattle.standing.specs.Standing.{rootOf, Open, Closed}
 use Rattle.standing.specs.Heads.{Rest, headWords, topOf, ClosedIn}
 

@@ -19,10 +19,11 @@ use Rattle.model.specs.Tree.{Pair, Ctx, Whole, plug, fill, after}
 use Rattle.model.specs.Search.{Spot, at, gap}
 use Rattle.model.specs.Walk.{nextKv, nextEdge}
 use Rattle.model.specs.Range.{toEnd}
+use Rattle.model.specs.Map.{upTo}
 use Rattle.model.specs.State.{State, listing, moreRemain}
 use Rattle.model.specs.Sound.{Sound}
 use Rattle.model.specs.Promise.{pairWords, laid, room}
-use Rattle.model.proofs.Walks.{Ahead, next-kv, next-edge, upTo, startEdge, start-parts, range-is}
+use Rattle.model.proofs.Walks.{Ahead, next-kv, next-edge, startEdge, start-parts, range-is}
 use Rattle.slices.proofs.Laws.{set-two}
 use Rattle.search.specs.declared.Handle.{Handle}
 use Rattle.search.specs.Results.{leafEdge}

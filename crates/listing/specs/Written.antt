@@ -10,8 +10,8 @@ use Rattle.model.specs.declared.Answer.the-variants.{Done}
 use Rattle.model.specs.declared.SearchBound.{SearchBound}
 use Rattle.model.specs.declared.Listed.{Listed}
 use Rattle.model.specs.Tree.{Pair, Ctx, after}
+use Rattle.model.specs.Map.{upTo}
 use Rattle.model.specs.Promise.{room, laid}
-use Rattle.model.proofs.Walks.{upTo}
 
 -- of all these pairs, as many as there is room for
 pub record Lays (all : List Pair) (o o′ : List ℕ) (r : Listed) : Type 0 where

@@ -14,7 +14,9 @@ use search::Handle;
 ghost use mathlib.Core.Path.{_≡_};
 ghost use Rattle.model.specs.Range.{badRange, toEnd};
 ghost use Rattle.model.specs.State.{State};
-ghost use Rattle.model.specs.Promise.{Holds, Listing};
+ghost use Rattle.model.specs.Promise.{Holds};
+ghost use Rattle.model.specs.Public.{Promised};
+ghost use Rattle.model.specs.Public as promise;
 ghost use Rattle.navigate.specs.Places.{In, EdgeAt};
 ghost use Rattle.listing.specs.Written.{Written};
 
@@ -96,7 +98,7 @@ fn write_from(a: &[u64], from: Handle, end: SearchBound, out: &mut [u64]) -> Lis
 
 // Seeks the first pair of a range and walks on from there.
 pub fn list(a: &[u64], range: Range, out: &mut [u64]) -> Listed
-    ensures { λ r. ⌜ Listing range (now (a .entry)) (now (a .entry)) (now (out .entry)) (now (out .exit)) r ⌝ }
+    ensures { λ r. ⌜ Promised (promise.list range (now (out .entry))) (now (a .entry)) (now (a .entry)) (now (out .exit)) r ⌝ }
 {
     if !well_formed(a) {
         return Listed {

@@ -7,7 +7,9 @@ use search::search_tree;
 ghost use mathlib.Core.Path.{_≡_};
 ghost use Rattle.model.specs.State as model;
 ghost use Rattle.model.specs.WellFormed.{WellFormed};
-ghost use Rattle.model.specs.Promise.{Holds, Does, Call};
+ghost use Rattle.model.specs.Promise.{Holds, Does};
+ghost use Rattle.model.specs.Public.{Promised};
+ghost use Rattle.model.specs.Public as promise;
 
 // The value of a key, behind a checked arena.
 pub fn look(a: &[u64], key: u64) -> Answer
@@ -24,7 +26,7 @@ pub fn look(a: &[u64], key: u64) -> Answer
 
 // The value of a key.
 pub fn get(a: &[u64], key: u64) -> Answer
-    ensures { λ r. ⌜ Call (model.get key) (now (a .entry)) (now (a .entry)) r ⌝ }
+    ensures { λ r. ⌜ Promised (promise.get key) (now (a .entry)) (now (a .entry)) tt r ⌝ }
 {
     if !well_formed(a) {
         return Answer::BadArena;
@@ -34,7 +36,7 @@ pub fn get(a: &[u64], key: u64) -> Answer
 
 // Puts a pair: a present key's value is replaced, and answered.
 pub fn put(a: &mut [u64], key: u64, val: u64) -> Answer
-    ensures { λ r. ⌜ Call (model.put key val) (now (a .entry)) (now (a .exit)) r ⌝ }
+    ensures { λ r. ⌜ Promised (promise.put key val) (now (a .entry)) (now (a .exit)) tt r ⌝ }
 {
     if !well_formed(a) {
         return Answer::BadArena;
@@ -44,7 +46,7 @@ pub fn put(a: &mut [u64], key: u64, val: u64) -> Answer
 
 // Takes the pair of a key out, and answers its value.
 pub fn delete(a: &mut [u64], key: u64) -> Answer
-    ensures { λ r. ⌜ Call (model.delete key) (now (a .entry)) (now (a .exit)) r ⌝ }
+    ensures { λ r. ⌜ Promised (promise.delete key) (now (a .entry)) (now (a .exit)) tt r ⌝ }
 {
     if !well_formed(a) {
         return Answer::BadArena;

@@ -5,15 +5,16 @@ use mathlib.Core.Bool.{Bool, true, false, cond, _&&_}
 use mathlib.Core.Path.{_≡_, refl}
 use mathlib.Core.List.{List, [], _∷_, _++_, map}
 use lib.Dec.{eqb}
-use lib.ListN.{replicate}
+use lib.ListN.{replicate, length}
 use Rattle.model.specs.declared.SearchBound.{SearchBound}
-use Rattle.model.specs.declared.SearchBound.the-variants.{Included, Excluded, AllIncluded}
+use Rattle.model.specs.declared.SearchBound.the-variants.{Included, Excluded, AllIncluded, AllExcluded}
 use Rattle.model.specs.declared.Range.{Range}
 use Rattle.model.specs.Lists.{count, pad, insertAt}
 use Rattle.model.specs.Layout.{none, nodeWords, frame, arena}
-use Rattle.model.specs.Tree.{Pair, Item, Node, Tree}
-use Rattle.model.specs.Range.{badRange, keysOf}
+use Rattle.model.specs.Tree.{Pair, Item, Node, Tree, Frame, Ctx, top, under}
+use Rattle.model.specs.Range.{badRange, keysOf, Fork, parted, together, forkOf}
 use Rattle.model.specs.Mark.{seenOf, markOf}
+use Rattle.model.specs.Insert.{Split, Side, left, right as rightSide, splitpoint}
 use Rattle.model.specs.Answer.{numbersOf}
 use Rattle.model.specs.State.{State, Order, formatted, order, list, restored, putCode, deleteCode}
 use Rattle.model.specs.Map.{range}
@@ -128,8 +129,14 @@ table =
     -- ranges: excluded 5 to excluded 5 refused; included 5 to excluded 5 empty
     record { size = 1; steps = puts (5 ∷ []) ++ lists (Excluded 5) (Excluded 5) ∷ []; said = 5 ∷ []; nodes = (0 ∷ 5 ∷ []) ∷ []; free = []; mark = 5 } ∷
     record { size = 1; steps = puts (5 ∷ []) ++ lists (Included 5) (Excluded 5) ∷ []; said = 0 ∷ []; nodes = (0 ∷ 5 ∷ []) ∷ []; free = []; mark = 5 } ∷
+    record { size = 1; steps = puts (5 ∷ []) ++ lists (Included 6) (Included 5) ∷ []; said = 5 ∷ []; nodes = (0 ∷ 5 ∷ []) ∷ []; free = []; mark = 5 } ∷
+    record { size = 1; steps = puts (5 ∷ []) ++ lists (Excluded 5) (Excluded 6) ∷ []; said = 0 ∷ []; nodes = (0 ∷ 5 ∷ []) ∷ []; free = []; mark = 5 } ∷
+    record { size = 1; steps = puts (5 ∷ []) ++ lists (Included 5) (Included 5) ∷ []; said = 0 ∷ 5 ∷ 1005 ∷ []; nodes = (0 ∷ 5 ∷ []) ∷ []; free = []; mark = 5 } ∷
+    record { size = 1; steps = puts (5 ∷ []) ++ lists (Excluded 4) (Included 5) ∷ []; said = 0 ∷ 5 ∷ 1005 ∷ []; nodes = (0 ∷ 5 ∷ []) ∷ []; free = []; mark = 5 } ∷
     -- put 9, copy, put 12, restore the copy: only 9, mark 12
     record { size = 1; steps = puts (9 ∷ []) ++ copy ∷ puts (12 ∷ []) ++ restore ∷ lists AllIncluded AllIncluded ∷ []; said = 0 ∷ 9 ∷ 1009 ∷ []; nodes = (0 ∷ 9 ∷ []) ∷ []; free = []; mark = 12 } ∷
+    -- of two siblings the left one is chosen
+    record { size = 4; steps = puts (count 1 19) ++ deletes (8 ∷ 9 ∷ []); said = 1 ∷ 1009 ∷ []; nodes = (2 ∷ 14 ∷ []) ∷ (0 ∷ count 1 7 ++ count 10 4) ∷ (3 ∷ count 15 5) ∷ []; free = 1 ∷ []; mark = 19 } ∷
     -- beyond those marked: an empty leaf root stays; freed nodes are used again, the last returned first
     record { size = 1; steps = puts (5 ∷ []) ++ deletes (5 ∷ []); said = 1 ∷ 1005 ∷ []; nodes = (0 ∷ []) ∷ []; free = []; mark = 5 } ∷
     record { size = 3; steps = puts (count 1 12) ++ deletes (12 ∷ []) ++ puts (12 ∷ []); said = 0 ∷ 0 ∷ []; nodes = (1 ∷ 7 ∷ []) ∷ (0 ∷ count 1 6) ∷ (2 ∷ count 8 5) ∷ []; free = []; mark = 12 } ∷
@@ -139,6 +146,36 @@ table =
 pub right : unmet 0 table ≡ []
 unfolding table insertAt
 right = refl
+
+abbrev places : Side → List ℕ → List ℕ → List Split
+places s [] es = []
+places s (p ∷ ps) [] = []
+places s (p ∷ ps) (e ∷ es) = record { place = p; side = s; edge = e } ∷ places s ps es
+
+-- splitpoint at every edge of a full node
+pub splits : map splitpoint (count 0 12) ≡ places left (4 ∷ 4 ∷ 4 ∷ 4 ∷ 4 ∷ 5 ∷ []) (0 ∷ 1 ∷ 2 ∷ 3 ∷ 4 ∷ 5 ∷ []) ++ places rightSide (5 ∷ 6 ∷ 6 ∷ 6 ∷ 6 ∷ 6 ∷ []) (0 ∷ 0 ∷ 1 ∷ 2 ∷ 3 ∷ 4 ∷ [])
+splits = refl
+
+abbrev boundWords : SearchBound → List ℕ
+boundWords AllIncluded = 0 ∷ 0 ∷ []
+boundWords (Included k) = 1 ∷ k ∷ []
+boundWords (Excluded k) = 2 ∷ k ∷ []
+boundWords AllExcluded = 3 ∷ 0 ∷ []
+
+-- the node, both edges and the children's bounds; or the leaf and its edge
+abbrev forkWords : Fork → List ℕ
+forkWords (parted c t i j r) = t .no ∷ i ∷ j ∷ (boundWords (r .start) ++ boundWords (r .end))
+forkWords (together top) = []
+forkWords (together (under f c)) = f .no ∷ length (f .left) ∷ []
+
+abbrev forked : SearchBound → SearchBound → List ℕ
+forked a b = forkWords (forkOf (record { start = a; end = b }) ((ended (record { size = 3; steps = puts (count 1 12); said = []; nodes = []; free = []; mark = 0 })) .state .whole))
+
+-- forks in 1-6, 7, 8-12
+pub forks : forked (Included 3) (Included 9) ∷ forked (Included 7) (Included 7) ∷ forked (Excluded 7) (Included 12) ∷ forked (Included 2) (Excluded 7) ∷ forked (Included 8) (Excluded 8) ∷ forked AllIncluded (Excluded 9) ∷ []
+    ≡ (2 ∷ 0 ∷ 1 ∷ 1 ∷ 3 ∷ 1 ∷ 9 ∷ []) ∷ (2 ∷ 0 ∷ 1 ∷ 3 ∷ 0 ∷ 3 ∷ 0 ∷ []) ∷ (1 ∷ 0 ∷ 5 ∷ 0 ∷ 0 ∷ 3 ∷ 0 ∷ []) ∷ (0 ∷ 1 ∷ 6 ∷ 3 ∷ 0 ∷ 0 ∷ 0 ∷ []) ∷ (1 ∷ 0 ∷ []) ∷ (2 ∷ 0 ∷ 1 ∷ 0 ∷ 0 ∷ 2 ∷ 9 ∷ []) ∷ []
+unfolding insertAt
+forks = refl
 
 -- formatted for N = 2, all 86 words
 pub formatted-2 : wordsOf (formatted 2) ≡ (1 ∷ 2 ∷ 10 ∷ 0 ∷ 0 ∷ 0 ∷ 1 ∷ 1 ∷ 0 ∷ 0 ∷ []) ++ ((1 ∷ 0 ∷ none ∷ replicate 35 0) ++ (0 ∷ 0 ∷ none ∷ replicate 35 0))

@@ -14,11 +14,11 @@ use search::find_lower_bound_index;
 ghost use mathlib.Core.Path.{_≡_};
 ghost use Rattle.model.specs.Tree.{top};
 ghost use Rattle.model.specs.Search.{sink};
+ghost use Rattle.model.specs.Range.{starts};
 ghost use Rattle.model.specs.Walk.{nextKv, backKv, nextEdge, backEdge};
 ghost use Rattle.model.specs.State.{State};
 ghost use Rattle.model.specs.WellFormed.{WellFormed};
 ghost use Rattle.model.specs.Promise.{Holds};
-ghost use Rattle.model.proofs.Forks.{starts};
 ghost use Rattle.search.specs.Results.{leafEdge};
 ghost use Rattle.navigate.specs.Places.{In, EdgeAt, KvAt, stepped};
 

@@ -11,6 +11,7 @@ use telling::say_line;
 ghost use mathlib.Core.Path.{_≡_};
 ghost use Prim.Native.Nat.{_+_, _*_, _<_, _≤_};
 ghost use lib.ListN.{length};
+ghost use Rattle.ranges.specs.Bounds.{triedBound};
 
 // The words of fifteen nodes.
 const LONG: usize = 580;
@@ -87,7 +88,9 @@ fn one_leaf(a: &mut [u64])
     leaf(a, 0, NONE, 0, 3, 1);
 }
 
-fn bound(kind: usize, key: u64) -> SearchBound {
+fn bound(kind: usize, key: u64) -> SearchBound
+    ensures { λ r. ⌜ r ≡ triedBound kind key ⌝ }
+{
     match kind {
         0 => SearchBound::Included(key),
         1 => SearchBound::Excluded(key),

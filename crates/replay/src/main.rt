@@ -19,6 +19,7 @@ use telling::word_at;
 ghost use mathlib.Core.Path.{_≡_};
 ghost use Prim.Native.Nat.{_+_, _≤_};
 ghost use lib.ListN.{length};
+ghost use Rattle.replay.specs.Records.{ListingMixed, Replays, readBound, boundKey, boundKind, readRange};
 
 // The words of 150 nodes.
 const LONG: usize = 5710;
@@ -39,7 +40,9 @@ const FORK: u64 = 1024;
 const TELL: u64 = 2048;
 
 // A bound of its kind.
-fn bound(kind: u64, key: u64) -> SearchBound {
+fn bound(kind: u64, key: u64) -> SearchBound
+    ensures { λ r. ⌜ r ≡ readBound kind key ⌝ }
+{
     match kind {
         0 => SearchBound::AllIncluded,
         1 => SearchBound::Included(key),
@@ -48,7 +51,18 @@ fn bound(kind: u64, key: u64) -> SearchBound {
     }
 }
 
-fn kind(b: SearchBound) -> u64 {
+// The range of a listing or a fork.
+fn range_of(code: u64, k: u64, v: u64) -> Range
+    ensures { λ r. ⌜ r ≡ readRange code k v ⌝ }
+{
+    let start = bound(code / 4 % 4, k);
+    let end = bound(code % 4, v);
+    Range { start, end }
+}
+
+fn kind(b: SearchBound) -> u64
+    ensures { λ r. ⌜ r ≡ boundKind b ⌝ }
+{
     match b {
         SearchBound::AllIncluded => 0,
         SearchBound::Included(k) => 1,
@@ -57,7 +71,9 @@ fn kind(b: SearchBound) -> u64 {
     }
 }
 
-fn key(b: SearchBound) -> u64 {
+fn key(b: SearchBound) -> u64
+    ensures { λ r. ⌜ r ≡ boundKey b ⌝ }
+{
     match b {
         SearchBound::Included(k) => k,
         SearchBound::Excluded(k) => k,
@@ -66,8 +82,10 @@ fn key(b: SearchBound) -> u64 {
     }
 }
 
-// Lists a range into eight pairs' room and a word; what the output then holds is mixed in.
-fn listing(a: &[u64], range: Range, mix: u64) -> u64 {
+// ListingMixed a range into eight pairs' room and a word; what the output then holds is mixed in.
+fn listing(a: &[u64], range: Range, mix: u64) -> u64
+    ensures { λ r. ⌜ ListingMixed range mix (now (a .entry)) r ⌝ }
+{
     let mut out = [9; 17];
     let r = list(a, range, &mut out);
     let answer = r.answer;
@@ -127,6 +145,7 @@ fn tell(mix: u64, a: &[u64])
 // One record; the mix after it.
 fn run(a: &mut [u64], code: u64, k: u64, v: u64, mix: u64) -> u64
     requires { ⌜ length (now a) ≡ 5710 ⌝ }
+    ensures { λ r. ⌜ Replays code k v mix (now (a .entry)) (now (a .exit)) r ⌝ }
 {
     if code == FORMAT {
         say_answer(format(a));
@@ -136,9 +155,7 @@ fn run(a: &mut [u64], code: u64, k: u64, v: u64, mix: u64) -> u64
         tell(mix, a);
         return mix;
     }
-    let start = bound(code / 4 % 4, k);
-    let end = bound(code % 4, v);
-    let range = Range { start, end };
+    let range = range_of(code, k, v);
     if code / 16 == LISTING / 16 {
         return listing(a, range, mix);
     }

@@ -14,7 +14,8 @@ use Rattle.model.specs.Mark.{Mark, unseen, seen, higher, seenOf, markOf}
 use Rattle.model.specs.State.{State, restored}
 use Rattle.model.specs.Words.{wordsOf}
 use Rattle.model.specs.WellFormed.{WellFormed}
-use Rattle.model.specs.Promise.{Holds, Restore}
+use Rattle.model.specs.Promise.{Holds, Restored, Restore}
+use Rattle.model.specs.declared.Answer.{Answer}
 use Rattle.model.specs.declared.Answer.the-variants.{Done, BadArena, BadSize, BadImage}
 use Rattle.model.proofs.Decode.{stateOf}
 use Rattle.model.proofs.Forward.{forward}
@@ -46,7 +47,7 @@ mark-higher (seen a) unseen = omega arith
 mark-higher (seen a) (seen b) = refl
 
 -- a restored state's words are the image's but for those two
-restored-words : (s i : State) → wordsOf (restored s i) ≡ set (set (wordsOf i) seenWord (max (seenOf (s .mark)) (seenOf (i .mark)))) markWord (max (markOf (s .mark)) (markOf (i .mark)))
+pub restored-words : (s i : State) → wordsOf (restored s i) ≡ set (set (wordsOf i) seenWord (max (seenOf (s .mark)) (seenOf (i .mark)))) markWord (max (markOf (s .mark)) (markOf (i .mark)))
 unfolding wordsOf arena
 restored-words s i = rw (← seen-higher (s .mark) (i .mark), ← mark-higher (s .mark) (i .mark)) refl
 
@@ -59,6 +60,10 @@ mark-is o = ap (λ (x : List ℕ). header x markWord) (o .words) ∙ words-heade
 
 left-words : {w i : List ℕ} {s t : State} → Holds w s → Holds i t → set (set i seenWord (max (getD w seenWord 0) (getD i seenWord 0))) markWord (max (getD w markWord 0) (getD i markWord 0)) ≡ wordsOf (restored s t)
 left-words {s = s} {t = t} o p = rw (seen-is o, mark-is o, seen-is p, mark-is p, p .words) (sym (restored-words s t))
+
+-- a restore that is done leaves the image's words, but of seen and mark the larger
+pub word-for-word : {w w′ i : List ℕ} {r : Answer} → Restored w w′ i r → w′ ≡ set (set i seenWord (max (getD w seenWord 0) (getD i seenWord 0))) markWord (max (getD w markWord 0) (getD i markWord 0))
+word-for-word x = x .left ∙ sym (left-words (x .holds) (x .image-holds))
 
 -- ---- the call
 

@@ -8,7 +8,8 @@ ghost use mathlib.Core.Path.{_≡_};
 ghost use Prim.Native.Nat.{_≤_, max};
 ghost use lib.ListN.{length, getD, set};
 ghost use Rattle.model.specs.Layout.{headerSize, seenWord, markWord};
-ghost use Rattle.model.specs.Promise.{Restore};
+ghost use Rattle.model.specs.Public.{Promised};
+ghost use Rattle.model.specs.Public as promise;
 
 // Copies every word of as long a slice.
 fn copy_over(a: &mut [u64], image: &[u64])
@@ -36,7 +37,7 @@ fn keep_mark(a: &mut [u64], seen: u64, mark: u64)
 
 // Copies the image's words over the arena; seen is 1 if either had it, and the mark is the larger of those seen.
 pub fn restore(a: &mut [u64], image: &[u64]) -> Answer
-    ensures { λ r. ⌜ Restore (now (a .entry)) (now (a .exit)) (now (image .entry)) r ⌝ }
+    ensures { λ r. ⌜ Promised (promise.restore (now (image .entry))) (now (a .entry)) (now (a .exit)) tt r ⌝ }
 {
     if image.len() != a.len() {
         return Answer::BadSize;

@@ -9,7 +9,7 @@ use Rattle.model.specs.Layout.{none, largestCount, NodeVal, nth}
 use Rattle.model.specs.Tree.{Pair, Item, Node, Tree, Frame, Ctx, top, under, Whole, fill, Twin, hasIn, has, hasCtx, hasWhole}
 use Rattle.model.specs.Words.{kind, rootNo, chainBlocks}
 use Rattle.model.specs.Sound.{AllIn}
-use Rattle.model.proofs.Held.{Written}
+use Rattle.model.specs.Words.{Written}
 use Rattle.store.specs.Links.{Body, Link, bodyOf, linkOf}
 use Rattle.standing.specs.Kept.{Links}
 

@@ -7,9 +7,9 @@ use borrow.Author.Needs.{needs}
 use borrow.Author.Tests.{not-true, not-false}
 use Rattle.model.specs.Tree.{Pair, after}
 use Rattle.model.specs.Range.{toEnd}
+use Rattle.model.specs.Map.{upTo}
 use Rattle.model.specs.State.{State}
 use Rattle.model.specs.Promise.{Holds}
-use Rattle.model.proofs.Walks.{upTo}
 use Rattle.navigate.specs.Places.{In, EdgeAt, KvAt}
 use Rattle.navigate.proofs.Pairs.{kv-within, kv-key, kv-val}
 use Rattle.listing.proofs.Sofar.{Sofar, sofar-start, Sight, sight, no-sight, all-told, end-told, more-told, one-more, room-two}

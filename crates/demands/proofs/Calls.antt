@@ -1,0 +1,245 @@
+-- Each public call is lawful.
+-- Assumes nothing.
+use Prim.Native.Nat.{ℕ, _<_}
+use native.Mathlib.Omega.{arith}
+use mathlib.Core.Path.{_≡_, refl, sym, ap, subst, fun-ext, _∙_}
+use mathlib.Core.Logic.{_⊎_, inl, inr, ⊎-elim}
+use mathlib.Core.Bool.{true, false}
+use mathlib.Core.List.{List, [], _∷_}
+use mathlib.Core.Option.{none}
+use lib.Dec.{lit<, ltb}
+use lib.ListN.{length, take, length-take}
+use borrow.Author.Tests.{eq-eqb, ne-eqb, lt-leb}
+use Rattle.model.specs.declared.Answer.{Answer}
+use Rattle.model.specs.declared.Answer.the-variants.{Done, NoRoom}
+use Rattle.model.specs.declared.Range.{Range}
+use Rattle.model.specs.declared.Listed.{Listed}
+use Rattle.model.specs.Layout.{freeWord}
+use Rattle.model.specs.Search.{search}
+use Rattle.model.specs.Insert.{needed}
+use Rattle.model.specs.Mark.{higher, storedMark}
+use Rattle.model.specs.Map.{look, range}
+use Rattle.model.specs.Answer.{numbersOf}
+use Rattle.model.specs.State as on
+use Rattle.model.specs.State.{State, Reply, Order, putAt, putCode, deleteCode, triples}
+use Rattle.model.specs.Words.{wordsOf}
+use Rattle.model.specs.Sound.{Sound}
+use Rattle.model.specs.Promise as model
+use Rattle.model.specs.Promise.{Holds, room, laid, Called, Formatted, Ran, Restored}
+use Rattle.model.proofs.Lists.{same-or}
+use Rattle.model.proofs.Maps.{bad-panics, panics-bad}
+use Rattle.model.proofs.Calls.{get-map, order-cases, NoneLeft, order-sound, batch-sound, formatted-sound, restored-sound}
+use Rattle.model.proofs.Backward.{one-state, backward}
+use Rattle.model.proofs.Unique.{one-format, one-listing, one-batch, one-restore}
+use Rattle.demands.specs.Plain.{Plain, only, ordered, orderedAll, putTo, getFrom, deleteFrom, roomBy, roomsBy}
+use Rattle.demands.specs.Stored.{stored, held}
+use Rattle.demands.specs.Call.{refusal, Call, ByMap, Refused, Did}
+use Rattle.demands.specs.Calls as call
+use Rattle.demands.specs.Calls.{Lacks, reads, InTurn}
+use Rattle.demands.proofs.Reading.{plainOf, stored-is, stored-mark, held-is, header-is}
+use Rattle.demands.proofs.Orders.{both-ways, with-room}
+use Rattle.demands.proofs.Steps.{Meets, NoneFor, get-meets, delete-meets, none-there, put-meets, order-meets, order-refuses, batch-size, batch-plain, batch-said}
+use Rattle.demands.proofs.Marks.{put-raises, order-raises, batch-raises, mark-raises}
+use Rattle.demands.proofs.Lawful.{Lawful, kept-words, long-is, Left, left-of, called-did, ends-map, refused-alone, refused-beside, one-alone, state-lawful, reply-refused}
+
+-- ---- check, get, delete
+
+-- a state that is left leaves the words
+same-words : {w w′ : List ℕ} {s t : State} → Holds w s → w′ ≡ wordsOf t → t ≡ s → w′ ≡ w
+same-words h e q = e ∙ ap wordsOf q ∙ sym (h .words)
+
+pub check-lawful : Lawful call.check
+check-lawful = state-lawful on.check (λ w. []) (only Done) (λ w w′. w′ ≡ w)
+    (λ w w′ r x. called-did _ _ (only Done) _ x (record { answered = refl; plain-is = refl; sound = x .holds .sound; size-is = refl; still = λ e. refl }) (same-words (x .holds) (x .left) refl))
+    (λ w. refl) (λ p. refl)
+
+module _ (k : ℕ) where
+  pub get-lawful : Lawful (call.get k)
+  get-lawful = state-lawful (on.get k) (λ w. []) (getFrom k) (λ w w′. w′ ≡ w)
+      (λ w w′ r x. let o = x .holds .sound in called-did _ _ (getFrom k) _ x (get-meets k (x .state) o) (same-words (x .holds) (x .left) (ap (λ (d : Reply). d .state) (get-map k (x .state) o))))
+      (λ w. refl) (λ p. refl)
+
+  pub delete-lawful : Lawful (call.delete k)
+  delete-lawful = state-lawful (on.delete k) (λ w. []) (deleteFrom k) (λ w w′. Unit {0}) (λ w w′ r x. called-did _ _ (deleteFrom k) _ x (delete-meets k (x .state) (x .holds .sound)) tt) (λ w. refl) (λ p. refl)
+
+-- ---- orders, and the put, which may lack nodes
+
+module _ (o : Order) {w : List ℕ} {s : State} (h : Holds w s) where
+  -- the state lacks nodes: so say the words
+  lacks-of : {d : Reply} → NoneLeft (o .key) s d → Lacks (o .key) w
+  lacks-of l = record {
+    state = s;
+    holds = h;
+    edge = l .edge;
+    absent = ap (look (o .key)) (stored-is h) ∙ none-there (o .key) s (h .sound) l;
+    found = l .found;
+    lacks = omega (arith, l .lacks, header-is h freeWord (lit< tt));
+  }
+
+  -- and a put that lacks nodes is refused
+  lacking : o .code ≡ putCode → Lacks (o .key) w → (on.order o s) .answer ≡ NoRoom
+  lacking c l =
+      let f : length (s .free) < needed (l .edge) = omega (arith, l .lacks, header-is h freeWord (lit< tt)) in
+      let e = one-state (l .holds) h in
+      rw (eq-eqb (o .code) putCode c, on.order) (ap (λ p. (putAt (o .key) (o .val) s p) .answer) (ap (λ (t : State). search (o .key) (t .whole)) (sym e) ∙ l .found) ∙ rw (lt-leb (needed (l .edge)) (length (s .free)) f, putAt))
+
+  -- with room it is not
+  not-lacking : Meets s (on.order o s) (ordered true o (plainOf s)) → o .code ≡ putCode → Lacks (o .key) w → ⊥
+  not-lacking m c l = both-ways (with-room o (plainOf s)) (ap (λ a. roomBy ((numbersOf a) .number)) (sym (m .answered) ∙ lacking c l))
+
+module _ (k v : ℕ) where
+  abbrev asOrder : Order
+  asOrder = record { code = putCode; key = k; val = v }
+
+  pub put-lawful : Lawful (call.put k v)
+  put-lawful = state-lawful (on.put k v) (λ w. call.noRoom k w ∷ []) (putTo true k v) (λ w w′. Unit {0})
+      (λ w w′ r x.
+      let s = x .state in
+      ⊎-elim
+      (λ (l : NoneLeft k s (on.put k v s)). inl (lacks-of asOrder (x .holds) l, reply-refused _ _ _ _ x (l .refused)))
+      (λ (m : Meets s (on.put k v s) (putTo true k v (plainOf s))). inr (not-lacking asOrder (x .holds) m refl, called-did _ _ (putTo true k v) _ x m tt))
+      (put-meets k s (x .holds .sound) v))
+      (λ w. refl) (λ p. put-raises true k v p)
+
+module _ (o : Order) where
+  -- an order that only reads leaves the state
+  reads-still : (s : State) → Sound s → reads o → (on.order o s) .state ≡ s
+  reads-still s u n = order-cases o s (λ d. d .state ≡ s) (λ e. absurd (n .0 e)) (λ e. ap (λ (d : Reply). d .state) (get-map (o .key) s u)) (λ e. absurd (n .1 e)) (λ a b c. refl)
+
+  pub order-lawful : Lawful (call.order o)
+  order-lawful = state-lawful (on.order o) (λ w. call.noRoomFor o w ∷ []) (ordered true o) (λ w w′. reads o → w′ ≡ w)
+      (λ w w′ r x.
+      let s = x .state in
+      let u = x .holds .sound in
+      ⊎-elim
+      (λ (l : NoneFor o s (on.order o s)). inl ((l .a-put, lacks-of o (x .holds) (l .none-left)), reply-refused _ _ _ _ x (l .none-left .refused)))
+      (λ (m : Meets s (on.order o s) (ordered true o (plainOf s))). inr ((λ l. not-lacking o (x .holds) m (l .0) (l .1)), called-did _ _ (ordered true o) _ x m (λ q. same-words (x .holds) (x .left) (reads-still s u q))))
+      (order-meets o s u))
+      (λ w. refl) (λ p. order-raises true o p)
+
+-- ---- formatting
+
+pub format-lawful : Lawful call.format
+format-lawful = record {
+  by-map = λ w w′ l r. ends-map (call.format .refusals w) (refused-alone call.format refl) (λ n x. did x);
+  one-end = λ w w₁ w₂ l₁ l₂ r₁ r₂ x y. one-alone (one-format w x y);
+  refusing = λ w. refl;
+  raises = λ rooms p. refl;
+}
+  where
+    did : {w w′ : List ℕ} {r : Answer} → Formatted w w′ r → Did call.format w w′ tt r
+    did {w′ = w′} x =
+        let h = kept-words (formatted-sound (x .count) (x .sized .some) (x .sized .few)) (x .left) in
+        record {
+          was-formed = λ e. both-ways refl e;
+          formed = backward w′ (on.formatted (x .count)) h;
+          long-same = long-is h ∙ sym (x .sized .long-is);
+          says = x .said;
+          holds = held-is h;
+          leaves = tt;
+          refused-same = λ e. both-ways e (ap refusal (x .said));
+        }
+
+-- ---- listing
+
+pub list-lawful : (q : Range) (o : List ℕ) → Lawful (call.list q o)
+list-lawful q o = record {
+  by-map = λ w w′ o′ r d. go d;
+  one-end = λ w w₁ w₂ o₁ o₂ r₁ r₂ x y. one-listing q w o x y;
+  refusing = λ w. refl;
+  raises = λ rooms p. refl;
+}
+  where
+    go : {w w′ o′ : List ℕ} {r : Listed} → model.Listing q w w′ o o′ r → ByMap (call.list q o) w w′ o′ r
+    go (inl x) = inl (x .0, refused-beside (call.list q o) _ (x .1))
+    go (inr (n, inl x)) = inr (n, inl (bad-panics q (x .0), refused-beside (call.list q o) _ (x .1)))
+    go {w} {w′} {o′} {r} (inr (n, inr (m, x))) =
+        let e = sym (stored-is (x .holds)) in
+        let f = backward w (x .state) (x .holds) in
+        inr (
+          n,
+          inr (
+            (λ p. m (panics-bad q p)),
+            record {
+              was-formed = λ b. f;
+              formed = rw (x .left) f;
+              long-same = ap length (x .left);
+              says = x .said ∙ ap {B = Listed} (λ l. record { answer = Done; wrote = length (take (room o) (range q l)); more = ltb (room o) (length (range q l)) }) e ∙ ap {B = Listed} (λ n. record { answer = Done; wrote = n; more = ltb (room o) (length (range q (stored w))) }) (length-take (room o) (range q (stored w)));
+              holds = ap held (x .left);
+              leaves = (x .left, x .written ∙ ap (λ l. laid (take (room o) (range q l)) o) e);
+              refused-same = λ b. both-ways b (ap (λ (a : Listed). refusal (a .answer)) (x .said));
+            },
+          ),
+        )
+
+-- ---- batch
+
+in-turn : (os : List Order) {w : List ℕ} {s : State} → Holds w s → InTurn os w (wordsOf (on.afterAll os s)) (on.answers os s)
+in-turn [] h = (sym (h .words), refl)
+in-turn (o ∷ os) {w} {s} h =
+    let d = on.order o s in
+    record {
+      between = wordsOf (d .state);
+      answer = d .answer;
+      others = on.answers os (d .state);
+      as-single = inr (λ b. b (backward w s h), record { state = s; holds = h; left = refl; said = refl });
+      formed = backward _ _ (kept-words (order-sound o s (h .sound)) refl);
+      refused = order-refuses o s (h .sound);
+      written = refl;
+      rest = in-turn os (kept-words (order-sound o s (h .sound)) refl);
+    }
+
+pub batch-lawful : (b a : List ℕ) → Lawful (call.batch b a)
+batch-lawful b a = record {
+  by-map = λ w w′ a′ r. ends-map ((call.batch b a) .refusals w) (refused-beside (call.batch b a)) (λ n x. did x);
+  one-end = λ w w₁ w₂ a₁ a₂ r₁ r₂ x y. one-batch b w a x y;
+  refusing = λ w. refl;
+  raises = λ rooms p. batch-raises rooms (triples b) p;
+}
+  where
+    did : {w w′ a′ : List ℕ} {r : Answer} → Ran b w w′ a a′ r → Did (call.batch b a) w w′ a′ r
+    did {w} {w′} {a′} x =
+        let s = x .state in
+        let os = triples b in
+        let o = x .holds .sound in
+        let e = sym (held-is (x .holds)) in
+        let q : plainOf (on.afterAll os s) ≡ (orderedAll (roomsBy a′) os (held w)) .plain = rw (x .written) (batch-plain os s o ∙ ap (λ p. (orderedAll (roomsBy (on.answers os s)) os p) .plain) e) in
+        let z : a′ ≡ (orderedAll (roomsBy a′) os (held w)) .said = rw (x .written) (batch-said os s o ∙ ap (λ p. (orderedAll (roomsBy (on.answers os s)) os p) .said) e) in
+        let g : Left w w′ ((orderedAll (roomsBy a′) os (held w)) .plain) = left-of (x .holds) (batch-sound os s o) (x .left) (batch-size os s o) q in
+        record {
+          was-formed = λ y. g .was-formed;
+          formed = g .formed;
+          long-same = g .long-same;
+          says = x .said;
+          holds = g .holds;
+          leaves = (z, rw (x .left, x .written) (in-turn os (x .holds)));
+          refused-same = λ y. both-ways y (ap refusal (x .said));
+        }
+
+-- ---- restore
+
+pub restore-lawful : (i : List ℕ) → Lawful (call.restore i)
+restore-lawful i = record {
+  by-map = λ w w′ l r. ends-map ((call.restore i) .refusals w) (refused-alone (call.restore i) refl) (λ n x. did (n .0) x);
+  one-end = λ w w₁ w₂ l₁ l₂ r₁ r₂ x y. one-alone (one-restore w i x y);
+  refusing = λ w. refl;
+  raises = λ rooms p. mark-raises (p .mark) (storedMark i);
+}
+  where
+    did : {w w′ : List ℕ} {r : Answer} → ((length i ≡ length w → ⊥) → ⊥) → Restored w w′ i r → Did (call.restore i) w w′ tt r
+    did {w} n x =
+        let s = x .state in
+        let t = x .image in
+        let y = x .image-holds in
+        let long : length i ≡ length w = ⊎-elim (λ e. e) (λ d. absurd (n d)) (same-or (length i) (length w)) in
+        let q : plainOf (on.restored s t) ≡ record { pairs = stored i; mark = higher (storedMark w) (storedMark i) } = λ j. record { pairs = sym (stored-is y) j; mark = higher (sym (stored-mark (x .holds)) j) (sym (stored-mark y) j) } in
+        let g = left-of (x .holds) (restored-sound s t (y .sound)) (x .left) (omega (arith, long, long-is (x .holds), long-is y)) q in
+        record {
+          was-formed = λ b. g .was-formed;
+          formed = g .formed;
+          long-same = g .long-same;
+          says = x .said;
+          holds = g .holds;
+          leaves = tt;
+          refused-same = λ b. both-ways b (ap refusal (x .said));
+        }

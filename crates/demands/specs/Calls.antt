@@ -1,0 +1,185 @@
+-- The public calls, each as one record.
+-- Assumes nothing.
+use Prim.Native.Nat.{ℕ, zero, _<_, min}
+use mathlib.Core.Path.{_≡_}
+use mathlib.Core.Bool.{true, false}
+use mathlib.Core.Logic.{_⊎_}
+use mathlib.Core.List.{List, [], _∷_}
+use mathlib.Core.Option.{none}
+use lib.Dec.{ltb}
+use lib.ListN.{length, take}
+use Rattle.model.specs.declared.Answer.{Answer}
+use Rattle.model.specs.declared.Answer.the-variants.{Done, NoRoom, BadRange, BadOrder}
+use Rattle.model.specs.declared.Range.{Range}
+use Rattle.model.specs.Layout.{header, freeWord}
+use Rattle.model.specs.Tree.{Ctx}
+use Rattle.model.specs.Search.{gap, search}
+use Rattle.model.specs.Insert.{needed}
+use Rattle.model.specs.Mark.{higher, storedMark}
+use Rattle.model.specs.Map.{look, range, Panics}
+use Rattle.model.specs.Answer.{numbersOf}
+use Rattle.model.specs.State.{State, Order, putCode, deleteCode, triples}
+use Rattle.model.specs.WellFormed.{WellFormed}
+use Rattle.model.specs.Promise.{Refusal, badSize, badArena, badImage, AnyCount, Holds, Fits, room, laid}
+use Rattle.model.specs.Public as promise
+use Rattle.demands.specs.Stored.{stored, held}
+use Rattle.demands.specs.Plain.{empty, bringing, only, putTo, getFrom, deleteFrom, ordered, orderedAll, roomsBy}
+use Rattle.demands.specs.Call.{Call, refusal, inAnswer, inListing}
+
+-- ---- refusals, by the words
+
+-- the documentation's panics, and no other range
+abbrev pub panics : Range → Refusal
+panics q = record { answer = BadRange; when = Panics q }
+
+-- an absent key lacks nodes: its leaf edge needs more than are free
+pub record Lacks (k : ℕ) (w : List ℕ) : Type 0 where
+  pub state : State
+  pub holds : Holds w state
+  pub edge : Ctx zero
+  pub absent : look k (stored w) ≡ none
+  pub found : search k (state .whole) ≡ gap edge
+  pub lacks : header w freeWord < needed edge
+
+-- a put of such a key
+abbrev pub noRoom : ℕ → List ℕ → Refusal
+noRoom k w = record { answer = NoRoom; when = Lacks k w }
+
+abbrev pub noRoomFor : Order → List ℕ → Refusal
+noRoomFor o w = record { answer = NoRoom; when = (o .code ≡ putCode) × Lacks (o .key) w }
+
+-- ---- formatting begins a history with the empty list
+
+abbrev pub format : Call
+format = record {
+  promise = promise.format;
+  speech = inAnswer;
+  refusals = λ w. badSize (AnyCount (length w) → ⊥) ∷ [];
+  rooms = λ r l. [];
+  does = λ rooms p. only Done empty;
+  leaves = λ w w′ l. Unit {0};
+  begins = true;
+}
+
+-- ---- one key
+
+abbrev pub check : Call
+check = record {
+  promise = promise.check;
+  speech = inAnswer;
+  refusals = λ w. badArena w ∷ [];
+  rooms = λ r l. [];
+  does = λ rooms p. only Done p;
+  leaves = λ w w′ l. w′ ≡ w;
+  begins = false;
+}
+
+abbrev pub get : (key : ℕ) → Call
+get k = record {
+  promise = promise.get k;
+  speech = inAnswer;
+  refusals = λ w. badArena w ∷ [];
+  rooms = λ r l. [];
+  does = λ rooms p. getFrom k p;
+  leaves = λ w w′ l. w′ ≡ w;
+  begins = false;
+}
+
+abbrev pub put : (key val : ℕ) → Call
+put k v = record {
+  promise = promise.put k v;
+  speech = inAnswer;
+  refusals = λ w. badArena w ∷ noRoom k w ∷ [];
+  rooms = λ r l. [];
+  does = λ rooms p. putTo true k v p;
+  leaves = λ w w′ l. Unit {0};
+  begins = false;
+}
+
+abbrev pub delete : (key : ℕ) → Call
+delete k = record {
+  promise = promise.delete k;
+  speech = inAnswer;
+  refusals = λ w. badArena w ∷ [];
+  rooms = λ r l. [];
+  does = λ rooms p. deleteFrom k p;
+  leaves = λ w w′ l. Unit {0};
+  begins = false;
+}
+
+-- ---- a single order: the call of its code; any other code is refused
+
+-- the codes of orders that only read, and unknown ones
+abbrev pub reads : Order → Type 0
+reads o = (o .code ≡ putCode → ⊥) × (o .code ≡ deleteCode → ⊥)
+
+abbrev pub order : Order → Call
+order o = record {
+  promise = promise.order o;
+  speech = inAnswer;
+  refusals = λ w. badArena w ∷ noRoomFor o w ∷ [];
+  rooms = λ r l. [];
+  does = λ rooms p. ordered true o p;
+  leaves = λ w w′ l. reads o → w′ ≡ w;
+  begins = false;
+}
+
+-- ---- a listing: the first min(K, all) pairs of the range, for the room K; how many, and whether more remain
+
+abbrev pub list : Range → (output : List ℕ) → Call
+list q o = record {
+  promise = promise.list q o;
+  speech = inListing;
+  refusals = λ w. badArena w ∷ panics q ∷ [];
+  rooms = λ r l. [];
+  does = λ rooms p. only (record { answer = Done; wrote = min (room o) (length (range q (p .pairs))); more = ltb (room o) (length (range q (p .pairs))) }) p;
+  leaves = λ w w′ o′. (w′ ≡ w) × (o′ ≡ laid (take (room o) (range q (stored w))) o);
+  begins = false;
+}
+
+-- ---- a batch
+
+-- the refusals that an order of a batch that runs may have
+abbrev pub OrderRefusal : Answer → Type 0
+OrderRefusal r = (r ≡ NoRoom) ⊎ (r ≡ BadOrder)
+
+-- the first order as a single call would, from the words w; its answer's two words stand in its place. The words between two orders are well-formed
+pub record First (o : Order) (w a : List ℕ) (Rest : List ℕ → List ℕ → Type 0) : Type 0 where
+  pub between : List ℕ
+  pub answer : Answer
+  pub others : List ℕ
+  pub as-single : promise.Promised (promise.order o) w between tt answer
+  pub formed : WellFormed between
+  pub refused : refusal answer ≡ true → OrderRefusal answer
+  pub written : a ≡ (numbersOf answer) .number ∷ (numbersOf answer) .word ∷ others
+  pub rest : Rest between others
+
+-- and the others so, each from the words that the one before it left
+abbrev pub InTurn : List Order → (w w′ a : List ℕ) → Type 0
+InTurn [] w w′ a = (w′ ≡ w) × (a ≡ [])
+InTurn (o ∷ os) w w′ a = First o w a (λ v b. InTurn os v w′ b)
+
+-- its answers and what it makes of a plain list: its orders in turn, where those answered NoRoom, and no other, found no room
+abbrev pub batch : (orders answers : List ℕ) → Call
+batch b a = record {
+  promise = promise.batch b a;
+  speech = inAnswer;
+  refusals = λ w. badSize (Fits b a → ⊥) ∷ badArena w ∷ [];
+  rooms = λ r a′. roomsBy a′;
+  does = λ rooms p. let m = orderedAll rooms (triples b) p in record { said = Done; plain = m .plain; spent = m .spent };
+  leaves = λ w w′ a′. (a′ ≡ (orderedAll (roomsBy a′) (triples b) (held w)) .said) × InTurn (triples b) w w′ a′;
+  begins = false;
+}
+
+-- ---- restore: the image's pairs, and the larger of the marks seen
+
+abbrev pub restore : (image : List ℕ) → Call
+restore i = record {
+  promise = promise.restore i;
+  speech = inAnswer;
+  refusals = λ w. badSize (length i ≡ length w → ⊥) ∷ badArena w ∷ badImage i ∷ [];
+  rooms = λ r l. [];
+  does = λ rooms p. record { said = Done; plain = record { pairs = stored i; mark = higher (p .mark) (storedMark i) }; spent = bringing (storedMark i) };
+  leaves = λ w w′ l. Unit {0};
+  begins = false;
+}
