@@ -11,6 +11,9 @@ use std::time::Instant;
 #[allow(dead_code)]
 #[path = "../rust/src/ffi.rs"]
 mod ffi;
+mod orders;
+
+use orders::{drawn, median, mixed, orders, quarters, Keys, Rand, OPS};
 
 #[repr(C)]
 struct Absl {
@@ -189,71 +192,7 @@ impl Drop for Three {
     }
 }
 
-// ---- orders
-
-struct Rand(u64);
-
-impl Rand {
-    fn next(&mut self) -> u64 {
-        self.0 = self.0.wrapping_add(0x9e37_79b9_7f4a_7c15);
-        let mut x = self.0;
-        x = (x ^ (x >> 30)).wrapping_mul(0xbf58_476d_1ce4_e5b9);
-        x = (x ^ (x >> 27)).wrapping_mul(0x94d0_49bb_1331_11eb);
-        x ^ (x >> 31)
-    }
-
-    fn below(&mut self, n: usize) -> usize {
-        (self.next() % n as u64) as usize
-    }
-
-    fn shuffle(&mut self, list: &mut [u64]) {
-        for i in (1..list.len()).rev() {
-            list.swap(i, self.below(i + 1));
-        }
-    }
-}
-
-const OPS: usize = 100_000;
 const BATCH: usize = 1_000;
-
-/// Keys of a case of so many pairs: those present, and as many (at most OPS) absent ones.
-struct Keys {
-    present: Vec<u64>,
-    absent: Vec<u64>,
-}
-
-impl Keys {
-    fn new(pairs: usize) -> Self {
-        let mut rand = Rand(pairs as u64);
-        let present = (0..pairs).map(|_| rand.next()).collect();
-        let absent = (0..pairs.min(OPS)).map(|_| rand.next()).collect();
-        Keys { present, absent }
-    }
-
-    /// Nodes enough for so many pairs: a B-tree that is grown and shrunk at random has six or seven a node.
-    fn nodes(&self, all: bool) -> usize {
-        let pairs = self.present.len() + if all { self.absent.len() } else { 0 };
-        (pairs / 5 + 16).min(65_535)
-    }
-}
-
-fn orders(code: u64, keys: impl Iterator<Item = u64>) -> Vec<u64> {
-    keys.flat_map(|key| [code, key, key >> 7]).collect()
-}
-
-/// So many orders of one kind at random keys of a list.
-fn drawn(code: u64, keys: &[u64], rand: &mut Rand) -> Vec<u64> {
-    orders(code, (0..OPS).map(|_| keys[rand.below(keys.len())]))
-}
-
-/// Half gets, a quarter puts, a quarter deletes, over all keys: about half of them are present at any time.
-fn mixed(keys: &[u64], rand: &mut Rand) -> Vec<u64> {
-    let one = |_| {
-        let key = keys[rand.below(keys.len())];
-        [[2, 2, 1, 3][rand.below(4)], key, key >> 9]
-    };
-    (0..OPS).flat_map(one).collect()
-}
 
 // ---- cases
 
@@ -300,7 +239,7 @@ impl Case {
     fn round(&mut self, who: &[Who]) -> Round {
         self.turn += 1;
         let mut rand = Rand(self.turn * 1_000_003);
-        let every: Vec<u64> = self.keys.present.iter().chain(&self.keys.absent).copied().collect();
+        let every = self.keys.every();
         match self.name {
             "get" => self.one(who, drawn(2, &self.keys.present, &mut rand), OPS),
             "absent" => self.one(who, drawn(2, &self.keys.absent, &mut rand), OPS),
@@ -390,16 +329,6 @@ impl Case {
 /// All that ran answered the same.
 fn same(who: &[Who], answers: &[Vec<u64>]) {
     assert!(who.windows(2).all(|w| answers[w[0] as usize] == answers[w[1] as usize]), "the answers differ");
-}
-
-/// The quarter, the middle and the three quarters of a list.
-fn quarters(mut list: Vec<f64>) -> [f64; 3] {
-    list.sort_by(f64::total_cmp);
-    [list[list.len() / 4], list[list.len() / 2], list[list.len() * 3 / 4]]
-}
-
-fn median(list: Vec<f64>) -> f64 {
-    quarters(list)[1]
 }
 
 /// The three in another order each round.

@@ -3,6 +3,7 @@
     report.py print TIMES.csv     prints the tables
     report.py write FOLDER        puts them between the marks of docs/SPEED.md
     report.py operating FILE.csv  puts capacity and cost between the marks of docs/OPERATING.md
+    report.py native CSV          prints the tables of what bench/native wrote: times, counts or returns
 """
 
 import os
@@ -26,7 +27,7 @@ def tables(path):
     found = []
     for line in open(path):
         fields = line.strip().split(",")
-        if fields[0] in ("case", "arena", "capacity", "cost"):
+        if fields[0] in ("case", "arena", "capacity", "cost", "run"):
             found.append((fields, []))
         else:
             found[-1][1].append(dict(zip(found[-1][0], fields)))
@@ -107,6 +108,78 @@ def operating(path):
         yield f"| {nodes:,} | {int(by[nodes, batches[0]]['pairs']):,} | " + " | ".join(shown) + " |"
 
 
+# ---- bench/native: a column for each contestant
+
+
+def grid(rows, keys, cell, titles):
+    """A row for each different value of the keys, a column for each contestant."""
+    who = list(dict.fromkeys(r["who"] for r in rows))
+    yield "| " + " | ".join(titles + who) + " |"
+    yield "|---" * (len(titles) + len(who)) + "|"
+    by = {}
+    for r in rows:
+        by.setdefault(tuple(r[k] for k in keys), {})[r["who"]] = r
+    for key, line in by.items():
+        name = [NAMES.get(key[0], key[0]).replace(";", ","), number(key[1])]
+        yield "| " + " | ".join(name + [cell(line[w]) for w in who]) + " |"
+
+
+def ratios(rows, keys, f, titles):
+    """The middle of the rounds' ratios, and how far their quarters stand from it, by size."""
+    yield from grid(rows, keys, lambda r: f"{float(r[f + '2']):.2f}", titles)
+    off = {}
+    for r in rows:
+        low, middle, high = (float(r[f + q]) for q in "123")
+        off[r[keys[1]]] = max(off.get(r[keys[1]], 0), high - middle, middle - low)
+    yield ""
+    yield "Quarters at most from these: " + ", ".join(f"{far:.2f} at {number(size)}" for size, far in off.items()) + "."
+
+
+def native_tables(path):
+    for rows in filter(None, tables(path)):
+        if "returns" in rows[0]:
+            yield "| run | nodes | orders | free at the end | returns | turns a return | most turns | turns an order |"
+            yield "|---|---|---|---|---|---|---|---|"
+            for r in rows:
+                cells = [r["run"].replace(";", ","), *(number(r[k]) for k in ("nodes", "orders", "free", "returns"))]
+                cells += [f"{float(r['each']):.1f}", number(r["most"]), f"{float(r['order']):.3f}"]
+                yield "| " + " | ".join(cells) + " |"
+        elif "time" in rows[0]:
+            yield "Nanoseconds an order, without the checks:"
+            yield ""
+            yield from grid(rows, ("run", "nodes"), lambda r: r["time"], ["run", "nodes"])
+        elif "b2" in rows[0]:
+            keys, titles = ("case", "pairs"), ["case", "pairs"]
+            yield "Nanoseconds an order, without the check:"
+            yield ""
+            yield from grid(rows, keys, lambda r: f"{float(r['ns']) - float(r['check']):.1f}", titles)
+            for what, f in ("BTreeMap's", "b"), ("absl's", "a"), ("the first's", "f"):
+                yield ""
+                yield f"Time / {what}:"
+                yield ""
+                yield from ratios(rows, keys, f, titles)
+        elif "r2" in rows[0]:
+            yield "The check, time / one OR over the words:"
+            yield ""
+            yield from ratios(rows, ("arena", "nodes"), "r", ["arena", "nodes"])
+            yield ""
+            yield "Microseconds, check and OR:"
+            yield ""
+            both = lambda r: f"{float(r['check']) / 1000:.2f}, {float(r['or']) / 1000:.2f}"
+            yield from grid(rows, ("arena", "nodes"), both, ["arena", "nodes"])
+        elif "orders" in rows[0]:
+            each = lambda r: f"{int(r['instructions']) / int(r['orders']):.0f}, {int(r['missed']) / int(r['orders']):.2f}"
+            yield "Instructions and mispredictions an order, without the check:"
+            yield ""
+            yield from grid(rows, ("case", "pairs"), each, ["case", "pairs"])
+        else:
+            each = lambda r: f"{int(r['instructions']) / int(r['words']):.2f}, {38 * int(r['missed']) / int(r['words']):.2f}"
+            yield "The check: instructions a word, and mispredictions a node:"
+            yield ""
+            yield from grid(rows, ("arena", "nodes"), each, ["arena", "nodes"])
+        yield ""
+
+
 def put_between(path, lines):
     """Puts lines between the marks of a document."""
     text = open(path).read()
@@ -131,6 +204,9 @@ def main():
                 *operating(sys.argv[2]),
             ],
         )
+        return
+    if sys.argv[1] == "native":
+        print("\n".join(native_tables(sys.argv[2])))
         return
     folder = sys.argv[2]
     load = lambda f: open(f"{folder}/load.{f}").read().strip()

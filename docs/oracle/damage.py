@@ -59,7 +59,7 @@ def well_formed(w):
     chain = []
     at = first_free
     while at != NONE:
-        if at >= count or at in chain:
+        if at >= count or (chain and at <= chain[-1]):
             return False
         chain.append(at)
         x = node(w, at)
@@ -101,11 +101,11 @@ def leaf(w, n, index, keys):
 
 def tree():
     w = formatted(5)
-    w[3:10] = [3, 1, 12, 2, 2, 1, 12]
+    w[3:10] = [3, 1, 12, 1, 2, 1, 12]
     leaf(w, 0, 0, list(range(1, 7)))
     leaf(w, 4, 1, list(range(8, 13)))
-    w[HEADER + WORDS * 1 + 2] = NONE
-    w[HEADER + WORDS * 2 + 2] = 1
+    w[HEADER + WORDS * 1 + 2] = 2
+    w[HEADER + WORDS * 2 + 2] = NONE
     b = HEADER + WORDS * 3
     w[b : b + 5] = [2, 1, NONE, 0, 7]
     w[b + 15] = 107
@@ -126,7 +126,7 @@ def short_leaf(w):
 
 def lost_node(w):
     w[7] = 1
-    w[HEADER + WORDS * 2 + 2] = NONE
+    w[HEADER + WORDS * 1 + 2] = NONE
 
 
 def empty_root(w):
@@ -135,7 +135,13 @@ def empty_root(w):
     w[b : b + WORDS] = [2, 0, NONE] + [0] * 35
     b = HEADER + WORDS * 4
     w[b : b + WORDS] = [0, 0, NONE] + [0] * 35
-    w[HEADER + WORDS * 1 + 2] = 4
+    w[HEADER + WORDS * 2 + 2] = 4
+
+
+def falling(w):
+    w[6] = 2
+    w[HEADER + WORDS * 1 + 2] = NONE
+    w[HEADER + WORDS * 2 + 2] = 1
 
 
 def main():
@@ -149,7 +155,7 @@ def main():
             w[:k] = formatted(count)
         print("07"[not good] + "04"[not well_formed(w[:k])])
     every_word(tree())
-    for made in short_leaf, lost_node, empty_root:
+    for made in short_leaf, lost_node, empty_root, falling:
         w = tree()
         made(w)
         print("04"[not well_formed(w)])

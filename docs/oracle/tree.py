@@ -185,7 +185,7 @@ class Tree:
 
     def give(self, n):
         del self.nodes[n]
-        self.free.insert(0, n)
+        self.free = sorted(self.free + [n])
 
     def words(self):
         links = {self.root: (NONE, 0)}

@@ -1,5 +1,5 @@
 //! The toolchain's own BTreeMap over the same kind of allocator. Its nodes are private, but a pair's address says in which node and at
-//! which place it stands, and the allocator says which nodes are free and in which order they came back.
+//! which place it stands, and the allocator says which nodes are free.
 
 use std::collections::BTreeMap;
 use std::mem::ManuallyDrop;

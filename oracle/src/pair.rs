@@ -16,7 +16,7 @@ pub enum Fault {
     Value,
     /// A delete reaches our index as a get.
     Kept,
-    /// After an order the first two free nodes change places; the words stay well-formed.
+    /// After an order the first two free nodes change places: the chain no longer rises, and the words are no arena.
     Chain,
     /// After an order one pair moves from one leaf to the next, where that stays well-formed: as if a split had been made elsewhere.
     Halves,

@@ -1,5 +1,6 @@
 //! What the Rust has no counterpart of: document 01's refusals, held against that document read anew in words.rs. Words are damaged one at
-//! a time, and every call must say so exactly where they are then no arena; no refused call may change a lent word.
+//! a time, free chains laid in every order, and every call must say so exactly where they are then no arena; no refused call may change a
+//! lent word.
 
 use crate::ours;
 use crate::pair::Totals;
@@ -23,7 +24,8 @@ pub fn all(totals: &mut Totals) -> Result<(), String> {
             damages(totals, &plan.words(spare, &mut random))?;
         }
     }
-    short(totals)
+    short(totals)?;
+    chains(totals)
 }
 
 /// Formatting at every small length; a batch and an image of every wrong one.
@@ -143,6 +145,35 @@ fn short(totals: &mut Totals) -> Result<(), String> {
         totals.refusals += 1;
         if said != (5, 0, 0) || out != [9; 8] {
             return Err(format!("a listing from {start:?} to {end:?} says {said:?}"));
+        }
+    }
+    Ok(())
+}
+
+/// Free chains of up to four nodes in every order: the rising one alone is an arena's, and any other is 4, or 8 as an image.
+fn chains(totals: &mut Totals) -> Result<(), String> {
+    let mut random = Random::new(9);
+    let leaves = Plan::Inner(vec![Plan::Leaf(5), Plan::Leaf(6)]);
+    let mut wholes = vec![words::formatted(3)];
+    for spare in 1..=4 {
+        wholes.extend([Plan::Leaf(3).words(spare, &mut random), leaves.words(spare, &mut random)]);
+    }
+    for whole in wholes {
+        let rising = words::chain(&whole)?;
+        let mut rows = vec![Vec::new()];
+        for _ in &rising {
+            let longer =
+                |row: &Vec<u64>| rising.iter().filter(|n| !row.contains(n)).map(|n| [&row[..], &[*n]].concat()).collect::<Vec<_>>();
+            rows = rows.iter().flat_map(longer).collect();
+        }
+        for row in rows {
+            let mut w = whole.clone();
+            let head: Vec<u64> = w[..words::HEADER].to_vec();
+            words::write_header(&mut w, head[1] as usize, head[3], head[4], head[5], &row, head[8], head[9]);
+            if words::well_formed(&w) != (row == rising) {
+                return Err(format!("well_formed says of the chain {row:?}: {}", row != rising));
+            }
+            one(totals, &w, &whole).map_err(|why| format!("the free chain {row:?} in {w:?}: {why}"))?;
         }
     }
     Ok(())

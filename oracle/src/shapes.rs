@@ -26,7 +26,7 @@ impl Plan {
         }
     }
 
-    /// The words of an arena with `spare` free nodes and the keys 2, 4, .., node numbers and free chain shuffled.
+    /// The words of an arena with `spare` free nodes and the keys 2, 4, .., node numbers shuffled; the chain of those left over rises.
     pub fn words(&self, spare: usize, random: &mut Random) -> Vec<u64> {
         let count = self.nodes() + spare;
         let mut numbers: Vec<u64> = (0..count as u64).collect();
@@ -34,6 +34,7 @@ impl Plan {
         let mut w = vec![0; words::long(count)];
         let mut key = 0;
         let root = self.lay(&mut w, &mut numbers, &mut key, NONE, 0);
+        numbers.sort();
         words::write_header(&mut w, count, root, self.height(), key / 2, &numbers, 1, key);
         w
     }

@@ -1,5 +1,5 @@
-//! An allocator that numbers nodes as document 01 does: the first free node is taken, a returned one becomes the first. A node's number is
-//! its place in one block of memory, so that the Rust's addresses can be read as numbers.
+//! An allocator that numbers nodes as request (iv) does: the free node with the lowest number is taken, a returned one goes to its place in
+//! the rising chain. A node's number is its place in one block of memory, so that the Rust's addresses can be read as numbers.
 
 use std::alloc::{AllocError, Allocator, Layout};
 use std::cell::{Cell, RefCell};
@@ -14,7 +14,7 @@ struct Slot([u8; SLOT]);
 
 pub struct Slab {
     slots: Box<[std::cell::UnsafeCell<Slot>]>,
-    /// The free nodes, the first one last.
+    /// The free nodes, falling: the first one last.
     free: RefCell<Vec<u32>>,
     /// A number that the next node is to have, while a tree is laid out.
     wanted: Cell<Option<u32>>,
@@ -57,7 +57,9 @@ impl Slab {
         self.free.borrow().iter().rev().map(|n| u64::from(*n)).collect()
     }
 
+    /// The free nodes become these, which rise.
     pub fn set_chain(&self, chain: &[u64]) {
+        assert!(chain.is_sorted_by(|a, b| a < b), "a free chain that does not rise");
         self.free.replace(chain.iter().rev().map(|n| *n as u32).collect());
     }
 
@@ -107,6 +109,8 @@ unsafe impl Allocator for Numbered<'_> {
         let (n, within) = self.0.place(at.as_ptr());
         assert!(within == 0, "not the start of a node");
         self.0.returned.set(self.0.returned.get() + 1);
-        self.0.free.borrow_mut().push(n as u32);
+        let mut free = self.0.free.borrow_mut();
+        let at = free.partition_point(|m| *m > n as u32);
+        free.insert(at, n as u32);
     }
 }

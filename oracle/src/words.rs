@@ -50,7 +50,7 @@ pub fn write_header(w: &mut [u64], count: usize, root: u64, height: u64, pairs: 
     }
 }
 
-/// The free chain of an arena's words.
+/// The free chain of an arena's words, which must rise.
 pub fn chain(w: &[u64]) -> Result<Vec<u64>, String> {
     if w.len() < HEADER + WORDS || w.len() != long(w[1] as usize) || w[0] != 1 || w[2] != HEADER as u64 {
         return Err("these words have no arena's header and length".to_string());
@@ -58,8 +58,11 @@ pub fn chain(w: &[u64]) -> Result<Vec<u64>, String> {
     let mut chain = Vec::new();
     let mut at = w[FIRST_FREE];
     while at != NONE {
-        if at >= w[1] || chain.len() as u64 == w[1] {
-            return Err("the free chain leads out of the arena, or round".to_string());
+        if at >= w[1] {
+            return Err("the free chain leads out of the arena".to_string());
+        }
+        if chain.last().is_some_and(|before| *before >= at) {
+            return Err("the free chain does not rise".to_string());
         }
         chain.push(at);
         at = node(w, at)[PARENT];
@@ -78,7 +81,8 @@ pub fn formatted(count: usize) -> Vec<u64> {
     w
 }
 
-/// Document 01's sentence "Well-formed", read anew: what the tree reaches and the chain holds is collected, and counted afterwards.
+/// Document 01's sentence "Well-formed", read anew, with request (iv)'s chain that rises: what the tree reaches and the chain holds is
+/// collected, and counted afterwards.
 pub fn well_formed(w: &[u64]) -> bool {
     if w.len() < HEADER || w[0] != 1 || w[2] != HEADER as u64 || !(1..=65_535).contains(&w[1]) || w.len() != long(w[1] as usize) {
         return false;

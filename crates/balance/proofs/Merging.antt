@@ -53,7 +53,7 @@ module _ (ns : List NodeVal) (p i l r : ℕ) where
 
 -- ---- each is what the step before leaves, and is ready for the step after
 
-module _ {h : List ℕ} {ns : List NodeVal} {p i l r : ℕ} (q : MergeReady h ns p i l r) where
+module _ {h : List ℕ} {ns : List NodeVal} {free : List ℕ} {p i l r : ℕ} (q : MergeReady h ns free p i l r) where
   abbrev B : Beside ns p i l r
   B = q .beside
 
@@ -160,7 +160,7 @@ module _ {h : List ℕ} {ns : List NodeVal} {p i l r : ℕ} (q : MergeReady h ns
         lead = rw (g, v) (all-remove (λ (t : ℕ). t < length ns) (P .edges) (i + 1) (B .branches .lead));
       }
 
-  pub to-return : ReturnReady h (mergedLinks ns p i l r) r
+  pub to-return : ReturnReady h (mergedLinks ns p i l r) free r
   to-return =
       let s = mergedBodies ns p i l r in
       let k = length (L .edges) in
@@ -170,9 +170,11 @@ module _ {h : List ℕ} {ns : List NodeVal} {p i l r : ℕ} (q : MergeReady h ns
         node = rw g (B .right .node);
         no-pairs = from-pairs (relinkFrom s l k) p (i + 1) r ∙ from-pairs s l k r ∙ ap (λ (t : NodeVal). t .pairs) v;
         no-edges = from-edges (relinkFrom s l k) p (i + 1) r ∙ from-edges s l k r ∙ ap (λ (t : NodeVal). t .edges) v;
+        out = q .out;
         used = rw g (q .used);
+        frees = q .frees;
       }
 
 -- what a step of the merge leaves: where w is an arena that is ready, w′ is one with the nodes f
 abbrev pub Leaves : List ℕ → List ℕ → ℕ → ℕ → ℕ → ℕ → ((h : List ℕ) (ns : List NodeVal) → List NodeVal) → Type 0
-Leaves w w′ p i l r f = (h : List ℕ) (ns : List NodeVal) → MergeReady h ns p i l r → Arena w h ns → Arena w′ h (f h ns)
+Leaves w w′ p i l r f = (h : List ℕ) (ns : List NodeVal) (free : List ℕ) → MergeReady h ns free p i l r → Arena w h ns → Arena w′ h (f h ns)

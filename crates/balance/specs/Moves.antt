@@ -8,12 +8,12 @@ use mathlib.Core.Logic.{_≢_}
 use mathlib.Core.List.{List, [], _∷_, _++_}
 use lib.Dec.{eqb}
 use lib.ListN.{length, take, drop, set}
-use Rattle.model.specs.Lists.{All}
+use Rattle.model.specs.Lists.{All, times}
 use Rattle.model.specs.Tree.{Pair}
 use Rattle.model.specs.Layout.{most, internal, NodeVal, nth}
 use Rattle.slices.specs.Words.{removeAt}
 use Rattle.node.specs.Reading.{pairAt}
-use Rattle.store.specs.Links.{withBody, freeNodes, returnNode, relinkFrom}
+use Rattle.store.specs.Links.{withBody, Frees, returnNode, relinkFrom}
 use Rattle.leaf.specs.Pairs.{withPairs}
 use Rattle.internal.specs.Inner.{Branches}
 
@@ -65,12 +65,18 @@ mergedLinks ns p i l r = relinkFrom (relinkFrom (mergedBodies ns p i l r) l (len
 
 -- and r is returned
 unfoldable pub mergeNodes : List ℕ → List NodeVal → ℕ → ℕ → ℕ → ℕ → List NodeVal
-mergeNodes h ns p i l r = returnNode h (mergedLinks ns p i l r) r
+mergeNodes free ns p i l r = returnNode (mergedLinks ns p i l r) free r
 
-pub record MergeReady (h : List ℕ) (ns : List NodeVal) (p i l r : ℕ) : Type 0 where
+-- (the free nodes are asked for as they stand when r comes to them)
+pub record MergeReady (h : List ℕ) (ns : List NodeVal) (free : List ℕ) (p i l r : ℕ) : Type 0 where
   pub beside : Beside ns p i l r
   pub fits : length (nth ns l .pairs) + 1 + length (nth ns r .pairs) ≤ most
-  pub used : freeNodes h < length ns
+  pub out : times r free ≡ 0
+  pub used : length free < length ns
+  pub frees : Frees h (mergedLinks ns p i l r) free
+
+abbrev pub Mergeable : List ℕ → List NodeVal → ℕ → ℕ → ℕ → ℕ → Type 0
+Mergeable h ns p i l r = (free : List ℕ) × MergeReady h ns free p i l r
 
 -- ---- moved: m of the pairs to l, the next one to the parent, the rest to r; to the left or to the right, as m is more or less than l had
 

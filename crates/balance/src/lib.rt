@@ -22,7 +22,7 @@ ghost use lib.ListN.{length};
 ghost use Rattle.model.specs.Layout.{stateWord, wordAt, NodeVal, Arena, nth};
 ghost use Rattle.node.specs.Reading.{Within, Has};
 ghost use Rattle.store.specs.Links.{returnHead};
-ghost use Rattle.balance.specs.Moves.{edgesWith, MergeReady, mergeNodes, StealReady, moveNodes};
+ghost use Rattle.balance.specs.Moves.{edgesWith, MergeReady, Mergeable, mergeNodes, StealReady, moveNodes};
 
 // How many edges come with k of them: none to a leaf.
 fn edges_with(a: &[u64], n: NodeNo, k: usize) -> usize
@@ -37,8 +37,8 @@ fn edges_with(a: &[u64], n: NodeNo, k: usize) -> usize
 
 // Moves the parent's pair and all that the right child holds to the left child, and returns the right one.
 pub fn do_merge(a: &mut [u64], parent: NodeNo, at: Place, left: NodeNo, right: NodeNo)
-    requires { ⌜ Has (now a) (λ h ns. MergeReady h ns (parent .0) (at .0) (left .0) (right .0)) ⌝ }
-    ensures { λ _. ⌜ ((h : List ℕ) (ns : List NodeVal) → MergeReady h ns (parent .0) (at .0) (left .0) (right .0) → Arena (now (a .entry)) h ns → Arena (now (a .exit)) (returnHead h (right .0)) (mergeNodes h ns (parent .0) (at .0) (left .0) (right .0))) ⌝ }
+    requires { ⌜ Has (now a) (λ h ns. Mergeable h ns (parent .0) (at .0) (left .0) (right .0)) ⌝ }
+    ensures { λ _. ⌜ ((h : List ℕ) (ns : List NodeVal) (free : List ℕ) → MergeReady h ns free (parent .0) (at .0) (left .0) (right .0) → Arena (now (a .entry)) h ns → Arena (now (a .exit)) (returnHead h free (right .0)) (mergeNodes free ns (parent .0) (at .0) (left .0) (right .0))) ⌝ }
 {
     let next = at.0 + 1;
     let old_parent_len = len(a, parent);

@@ -27,7 +27,7 @@ laid-rooted {st} o e =
 
 module _ {s : Side} {st : State} (b : Bordering s st) {w : List ℕ} (e : w ≡ wordsOf st) where
   bordering-laid : Laid st
-  bordering-laid = record { few = b .few; once = b .once; tall = b .tall; fitting = bordered-fitting s (st .whole .height) (st .whole .root) (b .bordered) }
+  bordering-laid = record { few = b .few; once = b .once; chain-rises = b .chain-rises; tall = b .tall; fitting = bordered-fitting s (st .whole .height) (st .whole .root) (b .bordered) }
 
   pub bordering-rooted : Rooted w (restOf st) (grownOf st)
   bordering-rooted = laid-rooted bordering-laid e

@@ -6,7 +6,7 @@ use mathlib.Core.Path.{_≡_, refl, ap, _∙_, sym, subst}
 use mathlib.Core.List.{List}
 use lib.ListN.{length}
 use Rattle.model.specs.Lists.{All}
-use Rattle.model.specs.Tree.{Pair, Tree, Whole, flatOf}
+use Rattle.model.specs.Tree.{Pair, Tree, Whole, flatOf, hasWhole}
 use Rattle.model.specs.Mark.{Covers, seenOf, markOf}
 use Rattle.model.specs.Insert.{Side}
 use Rattle.model.specs.Border.{fixBorder}
@@ -14,7 +14,8 @@ use Rattle.model.specs.State.{State, list}
 use Rattle.model.specs.Words.{wordsOf}
 use Rattle.model.specs.Sound.{Sound}
 use Rattle.model.proofs.Sizes.{FullWhole, to-full}
-use Rattle.model.proofs.Border.{Bordered, fix-flat, fix-has, fix-full}
+use Rattle.model.proofs.Border.{Bordered, fix-flat, fix-has, fix-full, fix-sorted}
+use Rattle.model.proofs.Frees.{rises-sorted, once-rises}
 use Rattle.standing.proofs.Scenes.{closed-words}
 use Rattle.standing.specs.Heads.{Rest, restOf, ClosedIn}
 use Rattle.border.specs.Borders.{Rooted, border, Bordering, mended}
@@ -35,6 +36,7 @@ module _ {s : Side} {st : State} (b : Bordering s st) where
     some = b .some;
     few = b .few;
     once = λ m. fix-has s m (st .whole) (st .free) ∙ b .once m;
+    chain-rises = once-rises (st .size) (λ m. hasWhole m ((fixBorder s (st .whole) (st .free)) .whole)) ((fixBorder s (st .whole) (st .free)) .free) (λ m. fix-has s m (st .whole) (st .free) ∙ b .once m) (fix-sorted s (st .whole) (st .free) (rises-sorted (st .free) (b .chain-rises)));
     full = to-full ((mended s st) .whole .height) ((mended s st) .whole .root) sizes;
     rising = rw mended-list (b .rising);
     covered = rw mended-list (b .covered);

@@ -72,8 +72,8 @@ module _ {s : Side} {w : List ℕ} {g : Rest} {h : ℕ} {t : Grown} {b : Balanci
       (record {
         way = under f (B .ctx);
         tree = join (B .twin);
-        free = B .twin .right .no ∷ B .free;
-        held = record { nodes = H .nodes; arena = H .arena; stand = zoom-in f (B .ctx) (join (B .twin)) (B .twin .right .no ∷ B .free) (H .stand); many = H .many };
+        free = returned (B .twin .right .no) (B .free);
+        held = record { nodes = H .nodes; arena = H .arena; stand = zoom-in f (B .ctx) (join (B .twin)) (returned (B .twin .right .no) (B .free)) (H .stand); many = H .many };
         node-is = ap (λ (x : BalancingContext). x .left .0) (B .is);
         some = some-pairs (B .height) (length ((join (B .twin)) .rest)) (omega (arith, length-join (B .twin)));
         same = q .when-merged e;

@@ -11,7 +11,7 @@ use Rattle.model.specs.Nodes.{returned, Grown}
 use Rattle.model.specs.Border.{dropTops}
 use Rattle.model.specs.Remove.{pop}
 use Rattle.node.specs.Reading.{Within, Has}
-use Rattle.internal.specs.Inner.{PopReady}
+use Rattle.internal.specs.Inner.{Poppable}
 use Rattle.standing.specs.Heads.{Rest, HoleIn, ClosedIn}
 use Rattle.fix.specs.Repairs.{Emptied}
 use Rattle.fix.proofs.Holes.{hole-header, hole-long, node-within, node-long}
@@ -74,7 +74,7 @@ module _ {w : List ℕ} {g : Rest} {t : Grown} (x : Rooted w g t) where
       go [] e = refl
       go (y ∷ l) e = absurd (omega arith)
 
-  pub goes-in : length (x .tree .rest) ≡ 0 → 0 < header w heightWord → Has w (λ h ns. PopReady h ns)
+  pub goes-in : length (x .tree .rest) ≡ 0 → 0 < header w heightWord → Has w (λ h ns. Poppable h ns)
   goes-in e l = emptied-in (emptied e) l
 
   pub goes : {w′ : List ℕ} → length (x .tree .rest) ≡ 0 → 0 < header w heightWord → PopCall w w′ → (t′ : Grown) × (y : Rooted w′ g t′) × (suc (y .height) ≡ x .height) × (tops t′ ≡ tops t)

@@ -6,7 +6,7 @@ use mathlib.Core.Bool.{cond}
 use mathlib.Core.List.{List}
 use lib.Dec.{ltb}
 use lib.ListN.{length}
-use Rattle.model.specs.Lists.{All, times}
+use Rattle.model.specs.Lists.{All, Rises, times}
 use Rattle.model.specs.Layout.{largestCount}
 use Rattle.model.specs.Tree.{Pair, Tree, Ctx, top, hasWhole}
 use Rattle.model.specs.Mark.{Covers}
@@ -80,6 +80,7 @@ pub record Bordering (s : Side) (st : State) : Type 0 where
   pub some : 1 ≤ st .size
   pub few : st .size ≤ largestCount
   pub once : (m : ℕ) → hasWhole m (st .whole) + times m (st .free) ≡ cond (ltb m (st .size)) 1 0
+  pub chain-rises : Rises (st .free)
   pub tall : 1 ≤ st .whole .height
   pub bordered : Bordered s (st .whole .height) (st .whole .root)
   pub rising : Rising (list st)

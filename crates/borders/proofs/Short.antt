@@ -5,7 +5,7 @@ use mathlib.Core.Path.{_≡_, sym, _∙_}
 use mathlib.Core.List.{List, [], _∷_}
 use lib.Dec.{T}
 use lib.ListN.{length}
-use Rattle.model.specs.Lists.{All, times}
+use Rattle.model.specs.Lists.{All, Rises, times}
 use Rattle.model.specs.Layout.{least, most, largestCount}
 use Rattle.model.specs.Tree.{Pair, Item, Node, Tree}
 use Rattle.model.specs.Mark.{Mark, unseen, seen, Covers}
@@ -52,6 +52,12 @@ abbrev covers : (m : Mark) (k : ℕ) → Test (Covers m k)
 covers unseen k = never
 covers (seen m) k = le k m
 
+-- ---- the free chain
+
+abbrev rises : (l : List ℕ) → Test (Rises l)
+rises [] = always tt
+rises (x ∷ l) = both (each (λ (y : ℕ). x < y) (λ y. le (suc x) y) l) (rises l)
+
 -- ---- the state, and its words
 
 module _ (s : Side) (st : State) where
@@ -73,12 +79,13 @@ module _ (s : Side) (st : State) where
         some = k .0 .0 .0;
         few = k .0 .0 .1;
         once = λ m. sym (times-blocks m st) ∙ once-each (st .size) (numbersIn st) (k .0 .1 .0) (k .0 .1 .1) m;
-        tall = k .1 .0 .0;
-        bordered = k .1 .0 .1;
+        chain-rises = k .1 .0 .1;
+        tall = k .1 .0 .0 .0;
+        bordered = k .1 .0 .0 .1;
         rising = k .1 .1 .0;
         covered = k .1 .1 .1;
       })
-      (both (both sized numbered) (both treed ordered))
+      (both (both sized numbered) (both (both treed (rises (st .free))) ordered))
 
 unfoldable pub short : (s : Side) (w : List ℕ) → Test (ShortOn s w)
 short s w = so (λ k. record { state = stateOf w; short = k .0; words = k .1 }) (both (bordering s (stateOf w)) (sameWords w (wordsOf (stateOf w))))

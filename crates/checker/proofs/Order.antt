@@ -4,8 +4,8 @@ use Prim.Native.Nat.{ℕ, _≤_, _<_}
 use native.Mathlib.Omega.{arith}
 use mathlib.Core.Path.{_≡_, refl, sym, subst}
 use mathlib.Core.List.{List, [], _∷_, _++_}
-use Rattle.model.specs.Lists.{All}
-use Rattle.model.specs.WellFormed.{AllAbove, RisingKeys}
+use Rattle.model.specs.Lists as lists
+use Rattle.model.specs.Lists.{All, AllAbove}
 use Rattle.model.proofs.Lists.{all-map}
 use Rattle.model.proofs.Keys.{Marks}
 use Rattle.inspect.specs.declared.Last.{Last}
@@ -42,17 +42,17 @@ unfolding Rises
 rises-above x [] r = tt
 rises-above x (k ∷ ks) r = (r .0, all-map (λ j. k < j) (λ j. x < j) (λ j u. omega (arith, r .0)) ks (rises-above k ks (r .1)))
 
-pub rises-rising : (l : Last) (ks : List ℕ) → Rises l ks → RisingKeys ks
+pub rises-rising : (l : Last) (ks : List ℕ) → Rises l ks → lists.Rises ks
 unfolding Rises
 rises-rising l [] r = tt
 rises-rising l (k ∷ ks) r = (rises-above k ks (r .1), rises-rising (After k) ks (r .1))
 
-above-rises : (x : ℕ) (ks : List ℕ) → AllAbove x ks → RisingKeys ks → Rises (After x) ks
+above-rises : (x : ℕ) (ks : List ℕ) → AllAbove x ks → lists.Rises ks → Rises (After x) ks
 unfolding Rises
 above-rises x [] a r = tt
 above-rises x (k ∷ ks) a r = (a .0, above-rises k ks (r .0) (r .1))
 
-pub rising-rises : (ks : List ℕ) → RisingKeys ks → Rises Start ks
+pub rising-rises : (ks : List ℕ) → lists.Rises ks → Rises Start ks
 unfolding Rises
 rising-rises [] r = tt
 rising-rises (k ∷ ks) r = (tt, above-rises k ks (r .0) (r .1))

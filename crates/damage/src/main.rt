@@ -81,13 +81,13 @@ fn lay(a: &mut [u64], at: usize, t: &[u8])
     }
 }
 
-// The header from the root's number on, and the free nodes 2 and 1.
+// The header from the root's number on, and the free nodes 1 and 2.
 fn head(a: &mut [u64])
     requires { ⌜ length (now a) ≡ 200 ⌝ }
 {
-    lay(a, 3, &[3, 1, 12, 2, 2, 1, 12]);
-    lay(a, 50, &[255]);
-    lay(a, 88, &[1]);
+    lay(a, 3, &[3, 1, 12, 1, 2, 1, 12]);
+    lay(a, 50, &[2]);
+    lay(a, 88, &[255]);
 }
 
 // 7 in node 3, between nodes 0 and 4.
@@ -148,12 +148,12 @@ fn short_leaf(a: &mut [u64])
     say(a);
 }
 
-// Node 1 neither reached nor in the chain.
+// Node 2 neither reached nor in the chain.
 fn lost_node(a: &mut [u64])
     requires { ⌜ length (now a) ≡ 200 ⌝ }
 {
-    lay(a, 6, &[2, 1]);
-    lay(a, 88, &[255]);
+    lay(a, 6, &[1, 1]);
+    lay(a, 50, &[255]);
     say(a);
 }
 
@@ -162,10 +162,20 @@ fn empty_root(a: &mut [u64])
     requires { ⌜ length (now a) ≡ 200 ⌝ }
 {
     clear(&mut a[124..200]);
-    lay(a, 5, &[6, 2, 3]);
-    lay(a, 50, &[4]);
+    lay(a, 5, &[6, 1, 3]);
+    lay(a, 88, &[4]);
     lay(a, 124, &[2, 0, 255]);
     lay(a, 164, &[255]);
+    say(a);
+}
+
+// The free nodes 2 and 1, a falling chain.
+fn falling(a: &mut [u64])
+    requires { ⌜ length (now a) ≡ 200 ⌝ }
+{
+    lay(a, 6, &[2]);
+    lay(a, 50, &[255]);
+    lay(a, 88, &[1]);
     say(a);
 }
 
@@ -188,7 +198,7 @@ fn formats() {
     every_word(&mut one);
 }
 
-// The three arenas that are wrong in one count.
+// The three arenas that are wrong in one count, and the falling chain.
 fn counts(a: &mut [u64])
     requires { ⌜ length (now a) ≡ 200 ⌝ }
 {
@@ -197,6 +207,8 @@ fn counts(a: &mut [u64])
     lost_node(a);
     tree(a);
     empty_root(a);
+    tree(a);
+    falling(a);
 }
 
 fn main() {

@@ -14,6 +14,7 @@ use Rattle.model.specs.Nodes.{returned, Grown}
 use Rattle.model.specs.Words.{rootNo}
 use Rattle.model.specs.Insert.{Side, left, right}
 use Rattle.model.specs.Remove.{join, canMerge, staying, steal, besideLeft, besideRight, mend, shrink}
+use Rattle.model.proofs.Frees.{returned-length}
 use Rattle.model.proofs.Plug.{length-fill}
 use Rattle.model.proofs.Sizes.{Len, FullCtx, Short, len-short, len-some}
 use Rattle.model.proofs.Balance.{lender, taker, balance-merged, balance-moved, steal-place}
@@ -21,7 +22,7 @@ use Rattle.model.proofs.Repair.{shrink-enough, shrink-merged, shrink-moved}
 use Rattle.node.specs.Reading.{Within, Has}
 use Rattle.node.proofs.Reading.{within, len-is}
 use Rattle.store.specs.Links.{returnHead}
-use Rattle.balance.specs.Moves.{mergeNodes, MergeReady, moveNodes, StealReady}
+use Rattle.balance.specs.Moves.{mergeNodes, MergeReady, Mergeable, moveNodes, StealReady}
 use Rattle.standing.specs.Standing.{rootOf, Beside}
 use Rattle.shrinking.proofs.Steps.{left-in, right-in, left-long, right-long, merge-ready, lends-left, lends-right, merge-long, merge-step, move-long, move-step, beside-low, beside-high, hole-low}
 use Rattle.fix.specs.declared.BalancingContext.{BalancingContext}
@@ -34,7 +35,7 @@ use Rattle.fix.proofs.Holes.{closed-in, pop-keeps, hole-header, free-fe
 -- ---- what the store's calls are known to do
 
 abbrev pub MergeCall : List ℕ → List ℕ → BalancingContext → Type 0
-MergeCall w w′ b = (h : List ℕ) (ns : List NodeVal) → MergeReady h ns (b .parent .0) (b .at .0) (b .left .0) (b .right .0) → Arena w h ns → Arena w′ (returnHead h (b .right .0)) (mergeNodes h ns (b .parent .0) (b .at .0) (b .left .0) (b .right .0))
+MergeCall w w′ b = (h : List ℕ) (ns : List NodeVal) (free : List ℕ) → MergeReady h ns free (b .parent .0) (b .at .0) (b .left .0) (b .right .0) → Arena w h ns → Arena w′ (returnHead h free (b .right .0)) (mergeNodes free ns (b .parent .0) (b .at .0) (b .left .0) (b .right .0))
 
 -- the one that lends, and the other; and how many pairs the left one has then
 abbrev pub lending : Side → BalancingContext → ℕ
@@ -116,25 +117,24 @@ module _ {w : List ℕ} {g : Rest} {b : BalancingContext} (q : Neighbours w g b)
     fits : length (q .twin .left .rest) + 1 + length (q .twin .right .rest) ≤ most
     fits = leb-true (length (q .twin .left .rest) + 1 + length (q .twin .right .rest)) most e
 
-    ready : MergeReady hd ns (q .no) (length (q .lows)) (q .twin .left .no) (q .twin .right .no)
-    ready = merge-ready (q .ctx) (q .no) (q .lows) (q .twin) (q .highs) (q .free) T hd fits (free-few (under (record { no = q .no; left = q .lows; right = record { pair = q .twin .pair; edge = q .twin .right } ∷ q .highs }) (q .ctx)) (q .twin .left) (q .free) (q .held))
+    ready : MergeReady hd ns (q .free) (q .no) (length (q .lows)) (q .twin .left .no) (q .twin .right .no)
+    ready = merge-ready (q .ctx) (q .no) (q .lows) (q .twin) (q .highs) (q .free) T hd refl refl fits (free-few (under (record { no = q .no; left = q .lows; right = record { pair = q .twin .pair; edge = q .twin .right } ∷ q .highs }) (q .ctx)) (q .twin .left) (q .free) (q .held))
 
-    ready-b : MergeReady hd ns (b .parent .0) (b .at .0) (b .left .0) (b .right .0)
-    ready-b = subst (λ (x : BalancingContext). MergeReady hd ns (x .parent .0) (x .at .0) (x .left .0) (x .right .0)) (q .is) ready
+    ready-b : MergeReady hd ns (q .free) (b .parent .0) (b .at .0) (b .left .0) (b .right .0)
+    ready-b = subst (λ (x : BalancingContext). MergeReady hd ns (q .free) (x .parent .0) (x .at .0) (x .left .0) (x .right .0)) (q .is) ready
 
-    pub merge-in : Has w (λ h ns. MergeReady h ns (b .parent .0) (b .at .0) (b .left .0) (b .right .0))
-    merge-in = record { head = hd; nodes = ns; arena = q .held .arena; holds = ready-b }
+    pub merge-in : Has w (λ h ns. Mergeable h ns (b .parent .0) (b .at .0) (b .left .0) (b .right .0))
+    merge-in = record { head = hd; nodes = ns; arena = q .held .arena; holds = (q .free, ready-b) }
 
-    pub merge-hole : {w′ : List ℕ} → MergeCall w w′ b → HoleIn w′ g (q .ctx) (fill (q .no) (q .lows) (join (q .twin)) (q .highs)) (q .twin .right .no ∷ q .free)
+    pub merge-hole : {w′ : List ℕ} → MergeCall w w′ b → HoleIn w′ g (q .ctx) (fill (q .no) (q .lows) (join (q .twin)) (q .highs)) (returned (q .twin .right .no) (q .free))
     merge-hole {w′} call =
-        let now : Arena w′ (returnHead hd (q .twin .right .no)) (mergeNodes hd ns (q .no) (length (q .lows)) (q .twin .left .no) (q .twin .right .no)) =
-        subst (λ (x : BalancingContext). Arena w′ (returnHead hd (x .right .0)) (mergeNodes hd ns (x .parent .0) (x .at .0) (x .left .0) (x .right .0))) (sym (q .is)) (call hd ns ready-b (q .held .arena)) in
-        let k : length (q .free) + 1 ≡ suc (length (q .free)) = omega arith in
+        let now : Arena w′ (returnHead hd (q .free) (q .twin .right .no)) (mergeNodes (q .free) ns (q .no) (length (q .lows)) (q .twin .left .no) (q .twin .right .no)) =
+        subst (λ (x : BalancingContext). Arena w′ (returnHead hd (q .free) (x .right .0)) (mergeNodes (q .free) ns (x .parent .0) (x .at .0) (x .left .0) (x .right .0))) (sym (q .is)) (call hd ns (q .free) ready-b (q .held .arena)) in
         record {
-          nodes = mergeNodes hd ns (q .no) (length (q .lows)) (q .twin .left .no) (q .twin .right .no);
-          arena = rw k at now;
-          stand = merge-step (q .ctx) (q .no) (q .lows) (q .twin) (q .highs) (q .free) T hd refl;
-          many = merge-long (q .ctx) (q .no) (q .lows) (q .twin) (q .highs) (q .free) T hd refl ∙ q .held .many;
+          nodes = mergeNodes (q .free) ns (q .no) (length (q .lows)) (q .twin .left .no) (q .twin .right .no);
+          arena = now;
+          stand = merge-step (q .ctx) (q .no) (q .lows) (q .twin) (q .highs) (q .free) T hd refl refl;
+          many = merge-long (q .ctx) (q .no) (q .lows) (q .twin) (q .highs) (q .free) T hd refl refl ∙ q .held .many;
         }
 
   -- ---- k pairs moved, out of the one at the side s
@@ -190,19 +190,19 @@ module _ {s : Side} {w : List ℕ} {g : Rest} {t : Grown} {b : BalancingContext}
   merge-held e {w′} call =
       let u = fill (B .no) (B .lows) (join (B .twin)) (B .highs) in
       let H = merge-hole B e call in
-      let z : suc (length (B .free)) ≡ length (B .free) + 1 = omega arith in (
+      let z : length (returned (B .twin .right .no) (B .free)) ≡ length (B .free) + 1 = omega (arith, returned-length (B .twin .right .no) (B .free)) in (
         record {
           height = suc (B .height);
           way = B .ctx;
           tree = u;
-          free = B .twin .right .no ∷ B .free;
+          free = returned (B .twin .right .no) (B .free);
           held = H;
           node-is = ap (λ (x : BalancingContext). x .parent .0) (B .is);
           full = q .full;
           short = len-short (B .ctx) (length (B .lows) + suc (length (B .highs))) (length (u .rest)) (q .long) (omega (arith, length-fill (B .no) (B .lows) (join (B .twin)) (B .highs)));
           same = q .when-merged e;
         },
-        hole-header (B .ctx) u (B .twin .right .no ∷ B .free) H freeWord (omega arith) ∙ z
+        hole-header (B .ctx) u (returned (B .twin .right .no) (B .free)) H freeWord (omega arith) ∙ z
             ∙ ap (λ (n : ℕ). n + 1) (sym (hole-header (under (record { no = B .no; left = B .lows; right = record { pair = B .twin .pair; edge = B .twin .right } ∷ B .highs }) (B .ctx)) (B .twin .left) (B .free) (B .held) freeWord (omega arith))),
       )
 

@@ -24,8 +24,7 @@ use Rattle.node.specs.declared.Place.{Place}
 use Rattle.node.specs.declared.Ascent.the-variants.{Edge, Root}
 use Rattle.node.specs.Reading.{Within, Has, ascentOf}
 use Rattle.node.proofs.Reading.{within, parent-is, place-is, ascent-root, ascent-edge}
-use Rattle.store.specs.Links.{firstFree}
-use Rattle.internal.specs.Inner.{PushReady, pushHead, pushNodes}
+use Rattle.internal.specs.Inner.{PushReady, Pushable, pushHead, pushNodes}
 use Rattle.search.specs.declared.Handle.{Handle}
 use Rattle.search.specs.Results.{leafEdge}
 use Rattle.navigate.specs.Places.{EdgeAt}
@@ -172,11 +171,11 @@ module _ {w : List ℕ} {g : Rest} (node levels r : ℕ) {p : Pair} {t : Grown} 
 -- ---- a new root
 
 abbrev pub PushCall : List ℕ → List ℕ → ℕ → Type 0
-PushCall w w₁ n = (hd : List ℕ) (ns : List NodeVal) → PushReady hd ns → Arena w hd ns → (n ≡ firstFree hd) × Arena w₁ (pushHead hd ns) (pushNodes hd ns)
+PushCall w w₁ n = (hd : List ℕ) (ns : List NodeVal) (free : List ℕ) → PushReady hd ns free → Arena w hd ns → (n ≡ taken free) × Arena w₁ (pushHead hd free) (pushNodes hd free ns)
 
 -- what is asked for it, what is asked then to put the pair in, and what is left
 pub record Crown (w : List ℕ) (g : Rest) (p : Pair) (r : ℕ) (t : Grown) : Type 0 where
-  pub ready : Has w (λ hd ns. PushReady hd ns)
+  pub ready : Has w (λ hd ns. Pushable hd ns)
   pub fits : (w₁ : List ℕ) (n : ℕ) → PushCall w w₁ n → FitIn 1 w₁ n 0 r
   pub out : (w₁ : List ℕ) (n : ℕ) → PushCall w w₁ n → (w₂ : List ℕ) → FitCall 1 w₁ w₂ n 0 p r → ClosedIn w₂ g t
 
@@ -187,27 +186,27 @@ module _ {w : List ℕ} {g : Rest} {h : ℕ} (x y : Tree (suc h)) (p : Pair) (m 
   abbrev O : Open (H .nodes) (top {h = suc h}) x y (m ∷ free)
   O = H .stand
 
-  push-fine : PushReady hd (H .nodes)
-  push-fine = push-ready x y m free O hd refl refl (omega arith) (omega arith)
+  push-fine : PushReady hd (H .nodes) (m ∷ free)
+  push-fine = push-ready x y m free O hd refl refl refl (omega arith)
 
-  pushed : (w₁ : List ℕ) (n : ℕ) → PushCall w w₁ n → (n ≡ m) × OpenIn w₁ g (under (new-root x y m free O hd refl refl) (top {h = suc (suc h)})) x y free
+  pushed : (w₁ : List ℕ) (n : ℕ) → PushCall w w₁ n → (n ≡ m) × OpenIn w₁ g (under (new-root x y m free O hd refl) (top {h = suc (suc h)})) x y free
   pushed w₁ n call =
-      let q = call hd (H .nodes) push-fine (H .arena) in
-      let e : pushHead hd (H .nodes) ≡ headWords g m (suc h) free = (let a : suc (length free) - 1 ≡ length free = omega arith in let b : h + 1 ≡ suc h = omega arith in rw (a, b, O .chain .0) refl) in (
+      let q = call hd (H .nodes) (m ∷ free) push-fine (H .arena) in
+      let e : pushHead hd (m ∷ free) ≡ headWords g m (suc h) free = (let b : h + 1 ≡ suc h = omega arith in rw b refl) in (
         q .0,
         record {
-          nodes = pushNodes hd (H .nodes);
+          nodes = pushNodes hd (m ∷ free) (H .nodes);
           arena = rw e at (q .1);
-          stand = push-step x y m free O hd refl refl;
-          many = push-long x y m free O hd refl refl ∙ H .many;
+          stand = push-step x y m free O hd refl;
+          many = push-long x y m free O hd refl ∙ H .many;
         },
       )
 
   crowned : Crown w g p (y .no) (rise (top {h = suc h}) x p y (m ∷ free))
   crowned = record {
-    ready = record { head = hd; nodes = H .nodes; arena = H .arena; holds = push-fine };
-    fits = λ w₁ n call. let q = pushed w₁ n call in rw (q .0) (fit-in (new-root x y m free O hd refl refl) top x y free (q .1) refl);
-    out = λ w₁ n call w₂ fit. let q = pushed w₁ n call in fit-held (new-root x y m free O hd refl refl) top x y free (q .1) refl p w₂ (rw (q .0) at fit);
+    ready = record { head = hd; nodes = H .nodes; arena = H .arena; holds = (m ∷ free, push-fine) };
+    fits = λ w₁ n call. let q = pushed w₁ n call in rw (q .0) (fit-in (new-root x y m free O hd refl) top x y free (q .1) refl);
+    out = λ w₁ n call w₂ fit. let q = pushed w₁ n call in fit-held (new-root x y m free O hd refl) top x y free (q .1) refl p w₂ (rw (q .0) at fit);
   }
 
 module _ {w : List ℕ} {g : Rest} (node levels r : ℕ) {p : Pair} {t : Grown} (k : Climbing w g node levels p r t) where

@@ -1,6 +1,6 @@
 -- An insertion at a hole, in words: what each call of the store asks, and what the words are after it.
 -- Assumes nothing.
-use Prim.Native.Nat.{ℕ, suc, _+_, _-_, pred, _≤_, _<_}
+use Prim.Native.Nat.{ℕ, suc, _+_, pred, _≤_, _<_}
 use native.Mathlib.Nat.{not-suc-le-zero}
 use native.Mathlib.Omega.{arith}
 use mathlib.Core.Path.{_≡_, refl, _∙_, sym, subst}
@@ -16,8 +16,8 @@ use Rattle.model.specs.Insert.{Split, splitpoint, isFull}
 use Rattle.model.proofs.Climb.{halved, rise-fits}
 use Rattle.node.specs.Reading.{Within, Has}
 use Rattle.node.proofs.Reading.{within, len-is}
-use Rattle.store.specs.Links.{firstFree, takeHead}
-use Rattle.leaf.specs.Split.{splitNodes, CutReady, Cut}
+use Rattle.store.specs.Links.{takeHead}
+use Rattle.leaf.specs.Split.{splitNodes, CutReady, Cuttable, Cut}
 use Rattle.standing.specs.Standing.{rootOf}
 use Rattle.standing.proofs.Scenes.{close}
 use Rattle.standing.proofs.Heads.{plug-root, plug-top}
@@ -35,10 +35,10 @@ abbrev pub FitCall : ℕ → List ℕ → List ℕ → ℕ → ℕ → Pair → 
 FitCall h w w′ n i p y = (hd : List ℕ) (ns : List NodeVal) → FitsAt h ns n i y → Arena w hd ns → Arena w′ hd (fitAt h ns n i p y)
 
 abbrev pub CutIn : ℕ → List ℕ → ℕ → ℕ → Type 0
-CutIn h w n i = Has w (λ hd ns. CutReady hd ns n i × Splits h ns n)
+CutIn h w n i = Has w (λ hd ns. Cuttable hd ns n i × Splits h ns n)
 
 abbrev pub CutCall : ℕ → List ℕ → List ℕ → ℕ → ℕ → ℕ → Pair → Type 0
-CutCall h w w′ n i r p = (hd : List ℕ) (ns : List NodeVal) → CutReady hd ns n i → Splits h ns n → Arena w hd ns → Cut hd ns n i r p × Arena w′ (takeHead hd ns) (splitNodes ns n (firstFree hd) i)
+CutCall h w w′ n i r p = (hd : List ℕ) (ns : List NodeVal) (free : List ℕ) → CutReady hd ns free n i → Splits h ns n → Arena w hd ns → Cut free ns n i r p × Arena w′ (takeHead hd free) (splitNodes ns n (taken free) i)
 
 -- a list that is not empty
 first-known : (l : List ℕ) → 1 ≤ length l → l ≡ taken l ∷ untaken l
@@ -87,20 +87,15 @@ module _ {w : List ℕ} {g : Rest} {h : ℕ} (f : Frame (Tree h)) (c : Ctx (suc 
   abbrev hd′ : List ℕ
   hd′ = headWords g (rootOf c (f .no)) (pred (topOf c)) free
 
-  head-taken : takeHead hd (H .nodes) ≡ hd′
-  head-taken =
-      let z : suc (length free) - 1 ≡ length free = omega arith in
-      rw (z, H .stand .chain .0) refl
-
-  ready : CutReady hd (H .nodes) (f .no) (pt .place) × Splits h (H .nodes) (f .no)
-  ready = cut-ready f c x y p m free (H .stand) full few hd refl (omega arith)
+  ready : CutReady hd (H .nodes) (m ∷ free) (f .no) (pt .place) × Splits h (H .nodes) (f .no)
+  ready = cut-ready f c x y p m free (H .stand) full few hd refl refl
 
   pub cut-in : CutIn h w (f .no) (pt .place)
-  cut-in = record { head = hd; nodes = H .nodes; arena = H .arena; holds = ready }
+  cut-in = record { head = hd; nodes = H .nodes; arena = H .arena; holds = ((m ∷ free, ready .0), ready .1) }
 
   module _ (w₁ : List ℕ) (r : ℕ) (up : Pair) (cut : CutCall h w w₁ (f .no) (pt .place) r up) where
-    done : Cut hd (H .nodes) (f .no) (pt .place) r up × Arena w₁ hd′ (splitNodes (H .nodes) (f .no) m (pt .place))
-    done = rw head-taken at (cut hd (H .nodes) (ready .0) (ready .1) (H .arena))
+    done : Cut (m ∷ free) (H .nodes) (f .no) (pt .place) r up × Arena w₁ hd′ (splitNodes (H .nodes) (f .no) m (pt .place))
+    done = cut hd (H .nodes) (m ∷ free) (ready .0) (ready .1) (H .arena)
 
     pub half-in : FitIn h w₁ (half (pt .side) (f .no) m) (pt .edge) (rootNo h y)
     half-in = record { head = hd′; nodes = _; arena = done .1; holds = half-ready f c x y p m free (H .stand) full few }

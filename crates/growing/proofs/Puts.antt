@@ -14,7 +14,7 @@ use Rattle.model.specs.Tree.{Pair}
 use Rattle.model.specs.Layout.{none, largestCount, internal, NodeVal, nth, blank}
 use Rattle.model.specs.Words.{freeVal}
 use Rattle.model.proofs.Lists.{one-same, one-other, times-append}
-use Rattle.store.specs.Links.{bodyOf, linkOf, withBody, withEdges, fresh, firstFree, relinkFrom}
+use Rattle.store.specs.Links.{bodyOf, linkOf, withBody, withEdges, fresh, relinkFrom}
 use Rattle.store.proofs.Relink.{from-none, from-body}
 use Rattle.leaf.specs.Split.{cutBodies, splitNodes}
 use Rattle.internal.specs.Inner.{rootOf, fitNodes, pushNodes}
@@ -278,17 +278,17 @@ module _ (ns : List NodeVal) (L : Links ns) (few : length ns ≤ largestCount) (
 -- ---- a level put on
 
 -- there is a free node, and a root
-pub record Crowns (h : List ℕ) (ns : List NodeVal) (next : ℕ) : Type 0 where
+pub record Crowns (h : List ℕ) (ns : List NodeVal) (m next : ℕ) : Type 0 where
   pub few : length ns ≤ largestCount
-  pub inside : firstFree h < length ns
-  pub is-free : nth ns (firstFree h) ≡ freeVal next
+  pub inside : m < length ns
+  pub is-free : nth ns m ≡ freeVal next
   pub root : rootOf h < length ns
   pub live : 1 ≤ nth ns (rootOf h) .state
   pub loose : nth ns (rootOf h) .parent ≡ none
 
-module _ (h : List ℕ) (ns : List NodeVal) (L : Links ns) (next : ℕ) (C : Crowns h ns next) where
+module _ (h : List ℕ) (ns : List NodeVal) (L : Links ns) (m : ℕ) (free : List ℕ) (next : ℕ) (C : Crowns h ns m next) where
   abbrev new : ℕ
-  new = firstFree h
+  new = m
 
   abbrev old : ℕ
   old = rootOf h
@@ -318,21 +318,21 @@ module _ (h : List ℕ) (ns : List NodeVal) (L : Links ns) (next : ℕ) (C : Cro
   joins =
       join-one took₁ (taking .links) (rw length-set (C .few)) old (rw length-set (C .root)) (rw old₁ (C .live)) (ap (λ (v : NodeVal). v .parent) old₁ ∙ C .loose) new (old ∷ []) 0 (rw length-set (C .inside)) (λ j a b. absurd (not-suc-le-zero a)) (λ q. rw new₁ (omega arith))
 
-  pushed-is : relinkFrom (set took₁ new (withBody (nth took₁ new) [] (old ∷ []))) new 0 ≡ pushNodes h ns
+  pushed-is : relinkFrom (set took₁ new (withBody (nth took₁ new) [] (old ∷ []))) new 0 ≡ pushNodes h (m ∷ free) ns
   unfolding pushNodes
   pushed-is = rw (new₁, set-set ns new (fresh internal) crown, crowned) refl
 
-  pub push-kept : Kept ns (pushNodes h ns) (new ∷ []) (new ∷ old ∷ [])
+  pub push-kept : Kept ns (pushNodes h (m ∷ free) ns) (new ∷ []) (new ∷ old ∷ [])
   push-kept =
       kept-trans (kept-more (new ∷ []) (new ∷ []) (new ∷ []) (new ∷ old ∷ []) (λ q z. z) (λ q z. omega arith) taking)
       (kept-more (new ∷ []) (old ∷ []) (new ∷ []) (new ∷ old ∷ []) (λ q z. z) (λ q z. omega arith) (rw pushed-is at (put-kept took₁ (taking .links) new [] (old ∷ []) 0 (old ∷ []) (old ∷ []) joins)))
 
-  push-new : nth (pushNodes h ns) new ≡ crown
+  push-new : nth (pushNodes h (m ∷ free) ns) new ≡ crown
   unfolding pushNodes
   push-new = getD-set-other (set ns new crown) old new _ blank (λ e. push-other (sym e)) ∙ crowned
 
-  pub push-body : bodyOf (nth (pushNodes h ns) new) ≡ record { state = internal; pairs = []; edges = old ∷ [] }
+  pub push-body : bodyOf (nth (pushNodes h (m ∷ free) ns) new) ≡ record { state = internal; pairs = []; edges = old ∷ [] }
   push-body = ap bodyOf push-new
 
-  pub push-root : linkOf (nth (pushNodes h ns) new) ≡ record { parent = none; place = 0 }
+  pub push-root : linkOf (nth (pushNodes h (m ∷ free) ns) new) ≡ record { parent = none; place = 0 }
   push-root = ap linkOf push-new

@@ -28,6 +28,7 @@ use Rattle.internal.specs.Inner as header
 use Rattle.internal.specs.Inner.{pushNodes}
 use Rattle.standing.specs.Kept.{Links, Kept}
 use Rattle.standing.specs.Standing.{numbered, content, contentOf, Stands, rootOf, counts, Hole, Open, Loose}
+use Rattle.standing.proofs.Freed.{open-frees}
 use Rattle.standing.proofs.Leads.{one-self, link-parent}
 use Rattle.standing.proofs.Relinks.{body-state}
 use Rattle.standing.proofs.Changes.{kept-trans, kept-more}
@@ -67,10 +68,12 @@ start c free H = record {
   high = tt;
   loose = tt;
   chain = H .chain;
+  rises = H .rises;
   links = H .links;
   root = H .root;
   once = λ m. omega (arith, H .once m);
   within = λ m u. H .within m (omega arith);
+  all = λ m u. omega (arith, H .all m u);
 }
 
 -- ---- the node under a hole
@@ -143,10 +146,12 @@ module _ {h : ℕ} (f : Frame (Tree h)) (c : Ctx (suc h)) (x y : Tree h) (free :
           );
           tree = stands-kept _ _ _ _ fit-kept h x (λ q. omega (arith, O .once q)) (O .low);
           chain = chain-kept _ _ _ _ fit-kept free (λ q. omega (arith, O .once q)) (O .chain);
+          rises = O .rises;
           links = fit-kept .links;
           root = fit-kept .roots (rootOf c (f .no)) (omega (arith, O .once (rootOf c (f .no)), child-in h y (rootOf c (f .no)))) (r .0) ∙ O .root;
           once = λ m. omega (arith, O .once m);
           within = λ m g. rw (fit-kept .long) (O .within m (omega arith));
+          all = λ m g. omega (arith, O .all m (rw (fit-kept .long) at g));
         }
 
 -- ---- the first free node
@@ -155,8 +160,8 @@ module _ {h : ℕ} (c : Ctx h) (x y : Tree h) (m : ℕ) (free : List ℕ) {ns : 
   pub free-in : m < length ns
   free-in = O .within m (omega (arith, one-self m))
 
-  pub take-ready : (hd : List ℕ) → firstFree hd ≡ m → 1 ≤ freeNodes hd → TakeReady hd ns
-  take-ready hd e s = record { some = s; node = rw e free-in; is-free = rw (e, O .chain .0) refl }
+  pub take-ready : (hd : List ℕ) → firstFree hd ≡ m → freeNodes hd ≡ suc (length free) → TakeReady hd ns (m ∷ free)
+  take-ready hd e s = record { some = omega arith; frees = open-frees c x y (m ∷ free) O hd e s }
 
 -- ---- a full node
 
@@ -286,7 +291,7 @@ module _ {h : ℕ} (f : Frame (Tree h)) (c : Ctx (suc h)) (x y : Tree h) (p : Pa
       kept-trans (kept-more (f .no ∷ m ∷ []) (m ∷ []) (f .no ∷ m ∷ []) (m ∷ newChild h (rootNo h y)) (λ q z. z) (λ q z. omega arith) K₁)
       (kept-more (f .no ∷ m ∷ []) (newChild h (rootNo h y)) (f .no ∷ m ∷ []) (m ∷ newChild h (rootNo h y)) (λ q z. z) (λ q z. omega arith) (put .keeps))
 
-  pub cut-ready : (hd : List ℕ) → firstFree hd ≡ m → 1 ≤ freeNodes hd → CutReady hd ns (f .no) (s .place) × Splits h ns (f .no)
+  pub cut-ready : (hd : List ℕ) → firstFree hd ≡ m → freeNodes hd ≡ suc (length free) → CutReady hd ns (m ∷ free) (f .no) (s .place) × Splits h ns (f .no)
   cut-ready hd d g = (
     record { take = take-ready (under f c) x y m free O hd d g; node = on; place = rw (node-pairs f c x y (m ∷ free) O) (omega (arith, place, node-long f c x y (m ∷ free) O)) },
     splitting ns (O .links) (O .few) (f .no) e r on h body,
@@ -334,50 +339,54 @@ module _ {h : ℕ} (f : Frame (Tree h)) (c : Ctx (suc h)) (x y : Tree h) (p : Pa
             let l = split-loose ns (O .links) (O .few) (f .no) m (firstOr free) (s .place) on om apart (O .chain .0) in
             link-parent (put .keeps .roots m (omega (arith, O .once m, one-self m, child-in h y m)) (link-parent l) ∙ l);
         chain = chain-kept _ _ _ _ K free (λ q. omega (arith, O .once q)) (O .chain .1);
+        rises = O .rises .1;
         links = K .links;
         root = K .roots (rootOf c (f .no)) (omega (arith, O .once (rootOf c (f .no)), child-in h y (rootOf c (f .no)), w .1)) (w .0) ∙ O .root;
         once = λ q. omega (arith, O .once q, counted q);
         within = λ q g. rw (K .long) (O .within q (omega (arith, counted q)));
+        all = λ q g. omega (arith, O .all q (rw (K .long) at g), counted q);
       }
 
 -- ---- above the root
 
-module _ {h : ℕ} (x y : Tree (suc h)) (m : ℕ) (free : List ℕ) {ns : List NodeVal} (O : Open ns (top {h = suc h}) x y (m ∷ free)) (hd : List ℕ) (em : firstFree hd ≡ m) (er : header.rootOf hd ≡ x .no) where
+module _ {h : ℕ} (x y : Tree (suc h)) (m : ℕ) (free : List ℕ) {ns : List NodeVal} (O : Open ns (top {h = suc h}) x y (m ∷ free)) (hd : List ℕ) (er : header.rootOf hd ≡ x .no) where
   abbrev pub new-root : Frame (Tree (suc h))
   new-root = record { no = m; left = []; right = [] }
 
   root-inside : x .no < length ns
   root-inside = O .within (x .no) (omega (arith, one-self (x .no)))
 
-  crowns : Crowns hd ns (firstOr free)
+  crowns : Crowns hd ns m (firstOr free)
   crowns = record {
     few = O .few;
-    inside = rw em (free-in (top {h = suc h}) x y m free O);
-    is-free = rw em (O .chain .0);
+    inside = free-in (top {h = suc h}) x y m free O;
+    is-free = O .chain .0;
     root = rw er root-inside;
     live = rw (er, body-state (O .low .0)) (kind-some h);
     loose = rw er (link-parent (O .root));
   }
 
-  Kp : Kept ns (pushNodes hd ns) (m ∷ []) (m ∷ x .no ∷ [])
-  Kp = rw (em, er) at (push-kept hd ns (O .links) (firstOr free) crowns)
+  Kp : Kept ns (pushNodes hd (m ∷ free) ns) (m ∷ []) (m ∷ x .no ∷ [])
+  Kp = rw er at (push-kept hd ns (O .links) m free (firstOr free) crowns)
 
-  pub push-ready : 1 ≤ freeNodes hd → header.heightOf hd < largestCount → header.PushReady hd ns
-  push-ready g u = record { take = take-ready (top {h = suc h}) x y m free O hd em g; root = rw er root-inside; height = u }
+  pub push-ready : firstFree hd ≡ m → freeNodes hd ≡ suc (length free) → header.heightOf hd < largestCount → header.PushReady hd ns (m ∷ free)
+  push-ready em g u = record { take = take-ready (top {h = suc h}) x y m free O hd em g; root = rw er root-inside; height = u }
 
-  pub push-long : length (pushNodes hd ns) ≡ length ns
+  pub push-long : length (pushNodes hd (m ∷ free) ns) ≡ length ns
   push-long = Kp .long
 
-  pub push-step : Open (pushNodes hd ns) {h = suc h} (under new-root top) x y free
+  pub push-step : Open (pushNodes hd (m ∷ free) ns) {h = suc h} (under new-root top) x y free
   push-step = record {
     few = rw (Kp .long) (O .few);
-    way = (rw (em, er) at (push-body hd ns (O .links) (firstOr free) crowns), tt, tt, tt);
+    way = (rw er at (push-body hd ns (O .links) m free (firstOr free) crowns), tt, tt, tt);
     low = stands-kept _ _ _ _ Kp (suc h) x (λ q. omega (arith, O .once q)) (O .low);
     high = stands-kept _ _ _ _ Kp (suc h) y (λ q. omega (arith, O .once q)) (O .high);
     loose = loose-kept (suc h) y Kp (λ q. omega (arith, O .once q)) (O .loose);
     chain = chain-kept _ _ _ _ Kp free (λ q. omega (arith, O .once q)) (O .chain .1);
+    rises = O .rises .1;
     links = Kp .links;
-    root = rw em at (push-root hd ns (O .links) (firstOr free) crowns);
+    root = push-root hd ns (O .links) m free (firstOr free) crowns;
     once = λ q. omega (arith, O .once q);
     within = λ q g. rw (Kp .long) (O .within q (omega arith));
+    all = λ q g. omega (arith, O .all q (rw (Kp .long) at g));
   }

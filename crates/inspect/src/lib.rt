@@ -161,7 +161,7 @@ fn own_free(a: &[u64], n: NodeNo) -> bool
     zeros(a, n, PARENT_IDX, WORDS)
 }
 
-// Whether just `free` free nodes are chained from `first` on.
+// Whether just `free` free nodes are chained from `first` on, in rising order.
 pub fn chain(a: &[u64], count: usize, first: u64, free: u64) -> bool
     requires { ⌜ Sized count (length (now a)) ⌝ }
     ensures { λ r. ⌜ Decides r (Chain (now (a .entry)) count free first) ⌝ }
@@ -176,7 +176,11 @@ pub fn chain(a: &[u64], count: usize, first: u64, free: u64) -> bool
         if !own_free(a, n) {
             return false;
         }
-        at = parent(a, n);
+        let next = parent(a, n);
+        if next <= at {
+            return false;
+        }
+        at = next;
         left -= 1;
     }
     at == NONE

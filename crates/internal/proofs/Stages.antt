@@ -14,10 +14,11 @@ use Rattle.slices.specs.Words.{removeAt}
 use Rattle.slices.proofs.Laws.{insert-length}
 use Rattle.node.specs.Reading.{Within}
 use Rattle.node.proofs.Reading.{within, len-is}
-use Rattle.store.specs.Links.{Body, withBody, withEdges, fresh, firstFree, takeNode, link, LinkReady, ReturnReady}
+use Rattle.model.specs.Nodes.{taken}
+use Rattle.store.specs.Links.{Body, withBody, withEdges, fresh, takeNode, link, LinkReady, ReturnReady}
 use Rattle.store.proofs.All.{all-insert, all-drop}
 use Rattle.store.proofs.Relink.{link-body}
-use Rattle.store.proofs.Chain.{head-is, long}
+use Rattle.store.proofs.Chain.{head-is, long, take-in}
 use Rattle.leaf.specs.Pairs.{withPairs, insertPair}
 use Rattle.leaf.specs.Split.{cutBodies, CutReady}
 use Rattle.leaf.proofs.Cutting.{cutPairs, new-other}
@@ -55,24 +56,24 @@ module _ {ns : List NodeVal} {n i c : ℕ} (q : FitReady ns n i c) where
 
 -- ---- a split
 
-module _ {h : List ℕ} {ns : List NodeVal} {n i : ℕ} (r : CutReady h ns n i) (b : Branches ns n) where
+module _ {h : List ℕ} {ns : List NodeVal} {free : List ℕ} {n i : ℕ} (r : CutReady h ns free n i) (b : Branches ns n) where
   abbrev m : ℕ
-  m = firstFree h
+  m = taken free
 
   abbrev cut : List NodeVal
   cut = cutPairs ns n m i internal
 
   cut-n : nth cut n ≡ withPairs (nth ns n) (take i (nth ns n .pairs))
-  cut-n = getD-set-other (set ns n _) m n _ blank (new-other h ns n i internal r) ∙ getD-set-same ns n _ blank (r .node)
+  cut-n = getD-set-other (set ns n _) m n _ blank (new-other h ns free n i internal r) ∙ getD-set-same ns n _ blank (r .node)
 
   cut-m : nth cut m ≡ withBody (fresh internal) (drop (i + 1) (nth ns n .pairs)) []
-  cut-m = getD-set-same (set ns n _) m _ blank (rw length-set (r .take .node))
+  cut-m = getD-set-same (set ns n _) m _ blank (rw length-set (take-in (r .take)))
 
   pub cut-node-n : n < length cut
   cut-node-n = rw (length-set, length-set) (r .node)
 
   pub cut-node-m : m < length cut
-  cut-node-m = rw (length-set, length-set) (r .take .node)
+  cut-node-m = rw (length-set, length-set) (take-in (r .take))
 
   pub cut-edges-n : nth cut n .edges ≡ nth ns n .edges
   cut-edges-n = ap (λ (v : NodeVal). v .edges) cut-n
@@ -87,38 +88,38 @@ module _ {h : List ℕ} {ns : List NodeVal} {n i : ℕ} (r : CutReady h ns n i) 
       let x′ = withEdges x (take (i + 1) (nth ns n .edges)) in
       let y′ = withEdges y (drop (i + 1) (nth ns n .edges)) in
       let two : set (set (set (set ns n x) m y) n x′) m y′ ≡ set (set ns n x′) m y′ =
-      ap (λ (t : List NodeVal). set t m y′) (set-comm (set ns n x) m n y x′ (λ z. new-other h ns n i internal r (sym z)) ∙ ap (λ (t : List NodeVal). set t m y) (set-set ns n x x′))
+      ap (λ (t : List NodeVal). set t m y′) (set-comm (set ns n x) m n y x′ (λ z. new-other h ns free n i internal r (sym z)) ∙ ap (λ (t : List NodeVal). set t m y) (set-set ns n x x′))
       ∙ set-set (set ns n x′) m y y′ in
       rw (cut-n, cut-m, append-nil (drop (i + 1) (nth ns n .edges))) (two ∙ ap (λ (s : ℕ). set (set ns n x′) m (withBody (fresh s) (drop (i + 1) (nth ns n .pairs)) (drop (i + 1) (nth ns n .edges)))) (sym (b .state-is)))
 
   pub cut-links : (k : ℕ) → k ≡ length (nth ns n .pairs) - i → LinkReady (cutBodies ns n m i) m k
   cut-links k e =
-      let v = getD-set-same (set ns n (withBody (nth ns n) (take i (nth ns n .pairs)) (take (i + 1) (nth ns n .edges)))) m (withBody (fresh (nth ns n .state)) (drop (i + 1) (nth ns n .pairs)) (drop (i + 1) (nth ns n .edges))) blank (rw length-set (r .take .node)) in
+      let v = getD-set-same (set ns n (withBody (nth ns n) (take i (nth ns n .pairs)) (take (i + 1) (nth ns n .edges)))) m (withBody (fresh (nth ns n .state)) (drop (i + 1) (nth ns n .pairs)) (drop (i + 1) (nth ns n .edges))) blank (rw length-set (take-in (r .take))) in
       record {
-        node = rw (length-set, length-set) (r .take .node);
+        node = rw (length-set, length-set) (take-in (r .take));
         count = rw v (simp length-drop (omega (arith, b .edges-are)));
         lead = rw (length-set, length-set, v) (all-drop (λ (t : ℕ). t < length ns) (i + 1) (nth ns n .edges) (b .lead));
       }
 
 -- ---- a level put on
 
-module _ {h : List ℕ} {ns : List NodeVal} (q : PushReady h ns) where
+module _ {h : List ℕ} {ns : List NodeVal} {free : List ℕ} (q : PushReady h ns free) where
   pub push-here : {w : List ℕ} → Arena w h ns → (headerSize ≤ length w) × Within w (getD w rootWord 0) × (getD w rootWord 0 ≡ rootOf h) × (getD w heightWord 0 ≡ heightOf h)
   push-here a =
       let e = head-is a rootWord (lit< tt) in
       (long a, rw e (within a _ (q .root)), e, head-is a heightWord (lit< tt))
 
-  pub top-edges : nth (takeNode h ns internal) (firstFree h) .edges ≡ []
-  top-edges = ap (λ (v : NodeVal). v .edges) (getD-set-same ns (firstFree h) (fresh internal) blank (q .take .node))
+  pub top-edges : nth (takeNode ns free internal) (taken free) .edges ≡ []
+  top-edges = ap (λ (v : NodeVal). v .edges) (getD-set-same ns (taken free) (fresh internal) blank (take-in (q .take)))
 
   -- the new root with its edge
-  pub top-body : (c : ℕ) → set (takeNode h ns internal) (firstFree h) (withEdges (nth (takeNode h ns internal) (firstFree h)) (insertAt (nth (takeNode h ns internal) (firstFree h) .edges) 0 c)) ≡ set ns (firstFree h) (withEdges (fresh internal) (c ∷ []))
+  pub top-body : (c : ℕ) → set (takeNode ns free internal) (taken free) (withEdges (nth (takeNode ns free internal) (taken free)) (insertAt (nth (takeNode ns free internal) (taken free) .edges) 0 c)) ≡ set ns (taken free) (withEdges (fresh internal) (c ∷ []))
   unfolding insertAt
-  top-body c = rw (getD-set-same ns (firstFree h) (fresh internal) blank (q .take .node)) (set-set ns (firstFree h) (fresh internal) _)
+  top-body c = rw (getD-set-same ns (taken free) (fresh internal) blank (take-in (q .take))) (set-set ns (taken free) (fresh internal) _)
 
 -- ---- a level taken off
 
-module _ {h : List ℕ} {ns : List NodeVal} (q : PopReady h ns) where
+module _ {h : List ℕ} {ns : List NodeVal} {free : List ℕ} (q : PopReady h ns free) where
   abbrev top : ℕ
   top = rootOf h
 
@@ -139,7 +140,7 @@ module _ {h : List ℕ} {ns : List NodeVal} (q : PopReady h ns) where
   pub bare : set ns top (withEdges (nth ns top) (removeAt (nth ns top .edges) 0)) ≡ set ns top (withEdges (nth ns top) [])
   bare = rw bare-edges refl
 
-  pub to-return : ReturnReady h (link (set ns top (withEdges (nth ns top) [])) (onlyChild h ns) none 0) top
+  pub to-return : ReturnReady h (link (set ns top (withEdges (nth ns top) [])) (onlyChild h ns) none 0) free top
   to-return =
       let s = set ns top (withEdges (nth ns top) []) in
       let v = getD-set-same ns top (withEdges (nth ns top) []) blank (q .root) in
@@ -149,5 +150,7 @@ module _ {h : List ℕ} {ns : List NodeVal} (q : PopReady h ns) where
         node = rw l (q .root);
         no-pairs = ap (λ (t : Body). t .pairs) b ∙ ap (λ (t : NodeVal). t .pairs) v ∙ q .no-pairs;
         no-edges = ap (λ (t : Body). t .edges) b ∙ ap (λ (t : NodeVal). t .edges) v;
+        out = q .out;
         used = rw l (q .used);
+        frees = q .frees;
       }

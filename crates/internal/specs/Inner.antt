@@ -4,10 +4,11 @@ use Prim.Native.Nat.{ℕ, _+_, _-_, _≤_, _<_}
 use mathlib.Core.Path.{_≡_}
 use mathlib.Core.List.{List, [], _∷_}
 use lib.ListN.{length, getD, set}
-use Rattle.model.specs.Lists.{All, insertAt}
+use Rattle.model.specs.Lists.{All, times, insertAt}
 use Rattle.model.specs.Tree.{Pair}
 use Rattle.model.specs.Layout.{none, header, rootWord, heightWord, largestCount, internal, NodeVal, nth}
-use Rattle.store.specs.Links.{withBody, withEdges, fresh, firstFree, freeNodes, takeHead, returnHead, returnNode, link, relinkFrom, TakeReady}
+use Rattle.model.specs.Nodes.{taken}
+use Rattle.store.specs.Links.{withBody, withEdges, fresh, takeHead, Frees, returnHead, returnNode, link, relinkFrom, TakeReady}
 use Rattle.leaf.specs.Pairs.{RoomAt}
 
 -- an internal node has an edge more than pairs, and each leads to a node
@@ -41,31 +42,43 @@ abbrev pub withRoot : List ℕ → ℕ → ℕ → List ℕ
 withRoot h root height = set (set h rootWord root) heightWord height
 
 -- put on: a new root above the old one, which is its only edge
-unfoldable pub pushNodes : List ℕ → List NodeVal → List NodeVal
-pushNodes h ns = link (set ns (firstFree h) (withEdges (fresh internal) (rootOf h ∷ []))) (rootOf h) (firstFree h) 0
+unfoldable pub pushNodes : List ℕ → List ℕ → List NodeVal → List NodeVal
+pushNodes h free ns = link (set ns (taken free) (withEdges (fresh internal) (rootOf h ∷ []))) (rootOf h) (taken free) 0
 
-abbrev pub pushHead : List ℕ → List NodeVal → List ℕ
-pushHead h ns = withRoot (takeHead h ns) (firstFree h) (heightOf h + 1)
+abbrev pub pushHead : List ℕ → List ℕ → List ℕ
+pushHead h free = withRoot (takeHead h free) (taken free) (heightOf h + 1)
 
-pub record PushReady (h : List ℕ) (ns : List NodeVal) : Type 0 where
-  pub take : TakeReady h ns
+pub record PushReady (h : List ℕ) (ns : List NodeVal) (free : List ℕ) : Type 0 where
+  pub take : TakeReady h ns free
   pub root : rootOf h < length ns
   pub height : heightOf h < largestCount
+
+abbrev pub Pushable : List ℕ → List NodeVal → Type 0
+Pushable h ns = (free : List ℕ) × PushReady h ns free
 
 -- taken off: the root, which has no pairs and one edge, is returned, and its child is the root
 abbrev pub onlyChild : List ℕ → List NodeVal → ℕ
 onlyChild h ns = getD (nth ns (rootOf h) .edges) 0 0
 
-unfoldable pub popNodes : List ℕ → List NodeVal → List NodeVal
-popNodes h ns = returnNode h (link (set ns (rootOf h) (withEdges (nth ns (rootOf h)) [])) (onlyChild h ns) none 0) (rootOf h)
+abbrev pub popped : List ℕ → List NodeVal → List NodeVal
+popped h ns = link (set ns (rootOf h) (withEdges (nth ns (rootOf h)) [])) (onlyChild h ns) none 0
 
-abbrev pub popHead : List ℕ → List NodeVal → List ℕ
-popHead h ns = withRoot (returnHead h (rootOf h)) (onlyChild h ns) (heightOf h - 1)
+unfoldable pub popNodes : List ℕ → List ℕ → List NodeVal → List NodeVal
+popNodes h free ns = returnNode (popped h ns) free (rootOf h)
 
-pub record PopReady (h : List ℕ) (ns : List NodeVal) : Type 0 where
+abbrev pub popHead : List ℕ → List ℕ → List NodeVal → List ℕ
+popHead h free ns = withRoot (returnHead h free (rootOf h)) (onlyChild h ns) (heightOf h - 1)
+
+-- (the free nodes are asked for as they stand when the root comes to them)
+pub record PopReady (h : List ℕ) (ns : List NodeVal) (free : List ℕ) : Type 0 where
   pub root : rootOf h < length ns
   pub no-pairs : nth ns (rootOf h) .pairs ≡ []
   pub one-edge : length (nth ns (rootOf h) .edges) ≡ 1
   pub child : onlyChild h ns < length ns
   pub height : 1 ≤ heightOf h
-  pub used : freeNodes h < length ns
+  pub out : times (rootOf h) free ≡ 0
+  pub used : length free < length ns
+  pub frees : Frees h (popped h ns) free
+
+abbrev pub Poppable : List ℕ → List NodeVal → Type 0
+Poppable h ns = (free : List ℕ) × PopReady h ns free

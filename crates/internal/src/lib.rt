@@ -22,14 +22,15 @@ ghost use mathlib.Core.List.{List};
 ghost use Prim.Native.Nat.{ℕ};
 ghost use Rattle.model.specs.Layout.{NodeVal, Arena};
 ghost use Rattle.node.specs.Reading.{Has, pairOf};
-ghost use Rattle.store.specs.Links.{firstFree, takeHead};
-ghost use Rattle.leaf.specs.Split.{CutReady, Cut, splitNodes};
-ghost use Rattle.internal.specs.Inner.{Branches, FitReady, fitNodes, PushReady, pushHead, pushNodes, PopReady, popHead, popNodes};
+ghost use Rattle.model.specs.Nodes.{taken};
+ghost use Rattle.store.specs.Links.{takeHead};
+ghost use Rattle.leaf.specs.Split.{CutReady, Cuttable, Cut, splitNodes};
+ghost use Rattle.internal.specs.Inner.{Branches, FitReady, fitNodes, PushReady, Pushable, pushHead, pushNodes, PopReady, Poppable, popHead, popNodes};
 
 // Puts a new root above the root, with the old one as its only edge.
 pub fn push_internal_level(a: &mut [u64]) -> NodeNo
-    requires { ⌜ Has (now a) (λ h ns. PushReady h ns) ⌝ }
-    ensures { λ r. ⌜ ((h : List ℕ) (ns : List NodeVal) → PushReady h ns → Arena (now (a .entry)) h ns → (r .0 ≡ firstFree h) × Arena (now (a .exit)) (pushHead h ns) (pushNodes h ns)) ⌝ }
+    requires { ⌜ Has (now a) (λ h ns. Pushable h ns) ⌝ }
+    ensures { λ r. ⌜ ((h : List ℕ) (ns : List NodeVal) (free : List ℕ) → PushReady h ns free → Arena (now (a .entry)) h ns → (r .0 ≡ taken free) × Arena (now (a .exit)) (pushHead h free) (pushNodes h free ns)) ⌝ }
 {
     let old = NodeNo(a[ROOT] as usize);
     let height = a[HEIGHT] + 1;
@@ -43,8 +44,8 @@ pub fn push_internal_level(a: &mut [u64]) -> NodeNo
 
 // Takes the root off, which has no pairs; its only child becomes the root.
 pub fn pop_internal_level(a: &mut [u64])
-    requires { ⌜ Has (now a) (λ h ns. PopReady h ns) ⌝ }
-    ensures { λ _. ⌜ ((h : List ℕ) (ns : List NodeVal) → PopReady h ns → Arena (now (a .entry)) h ns → Arena (now (a .exit)) (popHead h ns) (popNodes h ns)) ⌝ }
+    requires { ⌜ Has (now a) (λ h ns. Poppable h ns) ⌝ }
+    ensures { λ _. ⌜ ((h : List ℕ) (ns : List NodeVal) (free : List ℕ) → PopReady h ns free → Arena (now (a .entry)) h ns → Arena (now (a .exit)) (popHead h free ns) (popNodes h free ns)) ⌝ }
 {
     let top = NodeNo(a[ROOT] as usize);
     let height = a[HEIGHT] - 1;
@@ -69,8 +70,8 @@ pub fn insert_fit(a: &mut [u64], n: NodeNo, at: Place, kv: Kv, right: NodeNo)
 
 // Splits an internal node at a pair, which rises; the pairs and edges after it go to a new node.
 pub fn split(a: &mut [u64], n: NodeNo, at: Place) -> SplitResult
-    requires { ⌜ Has (now a) (λ h ns. CutReady h ns (n .0) (at .0) × Branches ns (n .0)) ⌝ }
-    ensures { λ r. ⌜ ((h : List ℕ) (ns : List NodeVal) → CutReady h ns (n .0) (at .0) → Branches ns (n .0) → Arena (now (a .entry)) h ns → Cut h ns (n .0) (at .0) (r .right .0) (pairOf (r .kv)) × Arena (now (a .exit)) (takeHead h ns) (splitNodes ns (n .0) (firstFree h) (at .0))) ⌝ }
+    requires { ⌜ Has (now a) (λ h ns. Cuttable h ns (n .0) (at .0) × Branches ns (n .0)) ⌝ }
+    ensures { λ r. ⌜ ((h : List ℕ) (ns : List NodeVal) (free : List ℕ) → CutReady h ns free (n .0) (at .0) → Branches ns (n .0) → Arena (now (a .entry)) h ns → Cut free ns (n .0) (at .0) (r .right .0) (pairOf (r .kv)) × Arena (now (a .exit)) (takeHead h free) (splitNodes ns (n .0) (taken free) (at .0))) ⌝ }
 {
     let next = at.0 + 1;
     let count = len(a, n) - at.0;

@@ -7,7 +7,8 @@ use lib.ListN.{length, take, drop, set}
 use Rattle.model.specs.Tree.{Pair}
 use Rattle.model.specs.Layout.{leaf, NodeVal, nth}
 use Rattle.node.specs.Reading.{pairAt}
-use Rattle.store.specs.Links.{withBody, fresh, firstFree, relinkFrom, TakeReady}
+use Rattle.model.specs.Nodes.{taken}
+use Rattle.store.specs.Links.{withBody, fresh, relinkFrom, TakeReady}
 
 pub record IsLeaf (v : NodeVal) : Type 0 where
   pub state-is : v .state ≡ leaf
@@ -26,12 +27,15 @@ unfoldable pub splitNodes : List NodeVal → ℕ → ℕ → ℕ → List NodeVa
 splitNodes ns n m i = relinkFrom (cutBodies ns n m i) m 0
 
 -- node n has a pair i, and there is a free node
-pub record CutReady (h : List ℕ) (ns : List NodeVal) (n i : ℕ) : Type 0 where
-  pub take : TakeReady h ns
+pub record CutReady (h : List ℕ) (ns : List NodeVal) (free : List ℕ) (n i : ℕ) : Type 0 where
+  pub take : TakeReady h ns free
   pub node : n < length ns
   pub place : i < length (nth ns n .pairs)
 
+abbrev pub Cuttable : List ℕ → List NodeVal → ℕ → ℕ → Type 0
+Cuttable h ns n i = (free : List ℕ) × CutReady h ns free n i
+
 -- the new node is the first free one, and the pair i rises
-pub record Cut (h : List ℕ) (ns : List NodeVal) (n i right : ℕ) (risen : Pair) : Type 0 where
-  pub right-is : right ≡ firstFree h
+pub record Cut (free : List ℕ) (ns : List NodeVal) (n i right : ℕ) (risen : Pair) : Type 0 where
+  pub right-is : right ≡ taken free
   pub risen-is : risen ≡ pairAt (nth ns n .pairs) i

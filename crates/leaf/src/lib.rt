@@ -18,8 +18,9 @@ ghost use mathlib.Core.List.{List};
 ghost use Prim.Native.Nat.{ℕ};
 ghost use Rattle.model.specs.Layout.{NodeVal, Arena, nth};
 ghost use Rattle.node.specs.Reading.{Has, pairOf, pairAt};
-ghost use Rattle.store.specs.Links.{firstFree, takeHead};
-ghost use Rattle.leaf.specs.Split.{CutReady, IsLeaf, Cut, splitNodes};
+ghost use Rattle.model.specs.Nodes.{taken};
+ghost use Rattle.store.specs.Links.{takeHead};
+ghost use Rattle.leaf.specs.Split.{CutReady, Cuttable, IsLeaf, Cut, splitNodes};
 ghost use Rattle.leaf.specs.Pairs.{RoomAt, PairAt, LastReady, FirstReady, SplitReady, insertPair, replacePair, removePair, lastPairs, firstPairs, splitPairs};
 
 // A split: the pair that rises, and the node right of it.
@@ -63,8 +64,8 @@ pub fn split_leaf_data(a: &mut [u64], n: NodeNo, new: NodeNo, at: Place) -> Kv
 
 // Splits a leaf at a pair, which rises; the pairs after it go to a new leaf.
 pub fn split(a: &mut [u64], n: NodeNo, at: Place) -> SplitResult
-    requires { ⌜ Has (now a) (λ h ns. CutReady h ns (n .0) (at .0)) ⌝ }
-    ensures { λ r. ⌜ ((h : List ℕ) (ns : List NodeVal) → CutReady h ns (n .0) (at .0) → IsLeaf (nth ns (n .0)) → Arena (now (a .entry)) h ns → Cut h ns (n .0) (at .0) (r .right .0) (pairOf (r .kv)) × Arena (now (a .exit)) (takeHead h ns) (splitNodes ns (n .0) (firstFree h) (at .0))) ⌝ }
+    requires { ⌜ Has (now a) (λ h ns. Cuttable h ns (n .0) (at .0)) ⌝ }
+    ensures { λ r. ⌜ ((h : List ℕ) (ns : List NodeVal) (free : List ℕ) → CutReady h ns free (n .0) (at .0) → IsLeaf (nth ns (n .0)) → Arena (now (a .entry)) h ns → Cut free ns (n .0) (at .0) (r .right .0) (pairOf (r .kv)) × Arena (now (a .exit)) (takeHead h free) (splitNodes ns (n .0) (taken free) (at .0))) ⌝ }
 {
     let right = take_node(a, LEAF);
     let kv = split_leaf_data(a, n, right, at);

@@ -118,12 +118,12 @@ table =
     record { size = 3; steps = puts (tens ++ 55 ∷ []); said = 0 ∷ 0 ∷ []; nodes = (2 ∷ 60 ∷ []) ∷ (0 ∷ 10 ∷ 20 ∷ 30 ∷ 40 ∷ 50 ∷ 55 ∷ []) ∷ (1 ∷ 70 ∷ 80 ∷ 90 ∷ 100 ∷ 110 ∷ []) ∷ []; free = []; mark = 110 } ∷
     -- 65 instead: 10-50, root 60, 65 and 70-110
     record { size = 3; steps = puts (tens ++ 65 ∷ []); said = 0 ∷ 0 ∷ []; nodes = (2 ∷ 60 ∷ []) ∷ (0 ∷ 10 ∷ 20 ∷ 30 ∷ 40 ∷ 50 ∷ []) ∷ (1 ∷ 65 ∷ 70 ∷ 80 ∷ 90 ∷ 100 ∷ 110 ∷ []) ∷ []; free = []; mark = 110 } ∷
-    -- from leaves 1-6, 7, 8-12: delete 12 gives the leaf 1-11 in node 0, first free node 2, then 1
-    record { size = 3; steps = puts (count 1 12) ++ deletes (12 ∷ []); said = 1 ∷ 1012 ∷ []; nodes = (0 ∷ count 1 11) ∷ []; free = 2 ∷ 1 ∷ []; mark = 12 } ∷
+    -- from leaves 1-6, 7, 8-12: delete 12 gives the leaf 1-11 in node 0, first free node 1, then 2
+    record { size = 3; steps = puts (count 1 12) ++ deletes (12 ∷ []); said = 1 ∷ 1012 ∷ []; nodes = (0 ∷ count 1 11) ∷ []; free = 1 ∷ 2 ∷ []; mark = 12 } ∷
     -- delete 7 gives 1-5, 6, 8-12
     record { size = 3; steps = puts (count 1 12) ++ deletes (7 ∷ []); said = 1 ∷ 1007 ∷ []; nodes = (2 ∷ 6 ∷ []) ∷ (0 ∷ count 1 5) ∷ (1 ∷ count 8 5) ∷ []; free = []; mark = 12 } ∷
     -- then delete 6 gives one leaf 1-5, 8-12
-    record { size = 3; steps = puts (count 1 12) ++ deletes (7 ∷ 6 ∷ []); said = 1 ∷ 1006 ∷ []; nodes = (0 ∷ count 1 5 ++ count 8 5) ∷ []; free = 2 ∷ 1 ∷ []; mark = 12 } ∷
+    record { size = 3; steps = puts (count 1 12) ++ deletes (7 ∷ 6 ∷ []); said = 1 ∷ 1006 ∷ []; nodes = (0 ∷ count 1 5 ++ count 8 5) ∷ []; free = 1 ∷ 2 ∷ []; mark = 12 } ∷
     -- 0-6, 7, 8-12, delete 12: 0-5, 6, 7-11
     record { size = 3; steps = puts (count 1 12 ++ 0 ∷ []) ++ deletes (12 ∷ []); said = 1 ∷ 1012 ∷ []; nodes = (2 ∷ 6 ∷ []) ∷ (0 ∷ count 0 6) ∷ (1 ∷ count 7 5) ∷ []; free = []; mark = 12 } ∷
     -- ranges: excluded 5 to excluded 5 refused; included 5 to excluded 5 empty
@@ -137,9 +137,9 @@ table =
     record { size = 1; steps = puts (9 ∷ []) ++ copy ∷ puts (12 ∷ []) ++ restore ∷ lists AllIncluded AllIncluded ∷ []; said = 0 ∷ 9 ∷ 1009 ∷ []; nodes = (0 ∷ 9 ∷ []) ∷ []; free = []; mark = 12 } ∷
     -- of two siblings the left one is chosen
     record { size = 4; steps = puts (count 1 19) ++ deletes (8 ∷ 9 ∷ []); said = 1 ∷ 1009 ∷ []; nodes = (2 ∷ 14 ∷ []) ∷ (0 ∷ count 1 7 ++ count 10 4) ∷ (3 ∷ count 15 5) ∷ []; free = 1 ∷ []; mark = 19 } ∷
-    -- beyond those marked: an empty leaf root stays; freed nodes are used again, the last returned first
+    -- beyond those marked: an empty leaf root stays; freed nodes are used again, the lowest first
     record { size = 1; steps = puts (5 ∷ []) ++ deletes (5 ∷ []); said = 1 ∷ 1005 ∷ []; nodes = (0 ∷ []) ∷ []; free = []; mark = 5 } ∷
-    record { size = 3; steps = puts (count 1 12) ++ deletes (12 ∷ []) ++ puts (12 ∷ []); said = 0 ∷ 0 ∷ []; nodes = (1 ∷ 7 ∷ []) ∷ (0 ∷ count 1 6) ∷ (2 ∷ count 8 5) ∷ []; free = []; mark = 12 } ∷
+    record { size = 3; steps = puts (count 1 12) ++ deletes (12 ∷ []) ++ puts (12 ∷ []); said = 0 ∷ 0 ∷ []; nodes = (2 ∷ 7 ∷ []) ∷ (0 ∷ count 1 6) ∷ (1 ∷ count 8 5) ∷ []; free = []; mark = 12 } ∷
     []
 
 -- every case is met

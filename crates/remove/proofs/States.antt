@@ -16,6 +16,7 @@ use Rattle.model.specs.State.{State, list}
 use Rattle.model.specs.Words.{rootNo, firstOr, nodesIn, headerOf, wordsOf}
 use Rattle.model.specs.Sound.{Sound}
 use Rattle.model.specs.Promise.{Holds}
+use Rattle.model.proofs.Frees.{rises-sorted, once-rises}
 use Rattle.model.proofs.Lists.{all-without}
 use Rattle.model.proofs.Rising.{rising-without}
 use Rattle.model.proofs.Plug.{around}
@@ -84,6 +85,7 @@ module _ {s : State} (o : Sound s) (h : ℕ) (c : Ctx (suc h)) (n : ℕ) (l : Li
     some = o .some;
     few = o .few;
     once = λ i. left-over .has-same i ∙ (ap (λ (v : Whole). hasWhole i v + times i (s .free)) w ∙ o .once i);
+    chain-rises = once-rises (s .size) (λ i. hasWhole i (g .whole)) (g .free) (λ i. left-over .has-same i ∙ (ap (λ (v : Whole). hasWhole i v + times i (s .free)) w ∙ o .once i)) (left-over .sorted-still (rises-sorted (s .free) (o .chain-rises)));
     full = to-full (g .whole .height) (g .whole .root) (left-over .full-still full);
     rising = rw (left-over .list-is) (rising-without (x .pair) highs lows (rw was at (o .rising)));
     covered = rw (left-over .list-is) (all-without (λ (p : Pair). Covers (s .mark) (p .key)) lows (x .pair) highs (rw was at (o .covered)));

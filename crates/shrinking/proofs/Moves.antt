@@ -8,20 +8,24 @@ use native.Mathlib.Nat.{not-suc-le-zero}
 use native.Mathlib.Decide.{decLt}
 use native.Mathlib.Omega.{arith}
 use lib.ListN.{length, take, drop, getD, set, length-take}
-use lib.Seq.{getD-set-same, getD-set-other, getD-take}
-use Rattle.model.specs.Lists.{one, times}
-use Rattle.model.specs.Layout.{NodeVal, nth, blank}
-use Rattle.model.specs.Words.{freeVal}
+use lib.Seq.{getD-take}
+use Rattle.model.specs.Lists.{All, one, times}
+use Rattle.model.specs.Layout.{NodeVal, nth}
+use Rattle.model.specs.Nodes.{returned}
+use Rattle.model.specs.Words.{chainBlocks}
+use Rattle.model.proofs.Held.{Written}
 use Rattle.model.proofs.Lists.{times-append}
 use Rattle.slices.specs.Words.{removeAt}
 use Rattle.node.specs.Reading.{pairAt}
-use Rattle.store.specs.Links.{Body, bodyOf, linkOf, withBody, relinkFrom, firstFree}
+use Rattle.store.specs.Links.{Body, bodyOf, linkOf, withBody, relinkFrom, Frees}
+use Rattle.store.proofs.Returns.{return-chain}
 use Rattle.leaf.specs.Pairs.{withPairs}
 use Rattle.balance.specs.Moves.{joinedPairs, joinedEdges, mergedBodies, mergedLinks, mergeNodes, movedBodies, moveNodes}
 use Rattle.standing.specs.Kept.{Child, Links, leads, Edged, In, LinksBut, Bodied, Kept}
 use Rattle.standing.proofs.Leads.{one-self, times-parts, times-removed, links-edged}
 use Rattle.standing.proofs.Relinks.{relink-edged, relinked, links-all}
-use Rattle.standing.proofs.Changes.{Relinked, relinked-one, relinked-trans, kept-relinked, kept-trans, kept-more, anew-kept, bodied-child, bodied-edged}
+use Rattle.standing.proofs.Changes.{Relinked, relinked-one, relinked-trans, kept-relinked, kept-trans, kept-more, bodied-child, bodied-edged}
+use Rattle.standing.proofs.Freed.{frees-kept, return-kept}
 use Rattle.shrinking.proofs.Three.{Siblings, three-p, three-l, three-r, three-leads, Which, is-p, is-l, is-r, none-of, which, three-bodied}
 
 getD-left : (a b : List ℕ) (j : ℕ) → j < length a → getD (a ++ b) j 0 ≡ getD a j 0
@@ -113,30 +117,35 @@ module _ (ns : List NodeVal) (L : Links ns) (p i l r : ℕ) (B : Siblings ns p i
   r-unled : leads r mid₂ ≡ 0
   r-unled = omega (arith, mid₂-re .leading r, mid-leads r, links-edged ns L .once r, one-self r)
 
-  module _ (h : List ℕ) where
-    abbrev out : NodeVal
-    out = freeVal (firstFree h)
+  mid₂-states : (q : ℕ) → nth mid₂ q .state ≡ nth ns q .state
+  mid₂-states q = ap (λ (b : Body). b .state) (mid₂-re .bodies q) ∙ mid-bodied .states q
 
-    anew : Kept mid₂ (set mid₂ r out) (r ∷ []) (r ∷ [])
-    anew = anew-kept mid₂ mid₂-links r out (rw (mid₂-kept .long) (B .right)) r-unled refl
+  module _ {h : List ℕ} (free : List ℕ) (F : Frees h ns free) (z : (q : ℕ) → times q free + times q (p ∷ l ∷ r ∷ []) ≤ 1) where
+    -- the free nodes stand as they did when r comes to them
+    pub merge-frees : Frees h (mergedLinks ns p i l r) free
+    merge-frees = frees-kept free (p ∷ l ∷ r ∷ []) [] mid₂-kept z mid₂-states F
 
-    pub merge-kept : Kept ns (mergeNodes h ns p i l r) (p ∷ l ∷ r ∷ []) (r ∷ [])
+    r-in : r < length mid₂
+    r-in = rw (mid₂-kept .long) (B .right)
+
+    back : Kept mid₂ (mergeNodes free ns p i l r) (r ∷ free) (r ∷ free)
     unfolding mergeNodes
+    back = return-kept mid₂ mid₂-links free merge-frees r r-in r-unled
+
+    pub merge-kept : Kept ns (mergeNodes free ns p i l r) (p ∷ l ∷ r ∷ free) (r ∷ free)
     merge-kept =
-        kept-trans (kept-more (p ∷ l ∷ r ∷ []) [] (p ∷ l ∷ r ∷ []) (r ∷ []) (λ q z. z) (λ q z. refl) mid₂-kept)
-        (kept-more (r ∷ []) (r ∷ []) (p ∷ l ∷ r ∷ []) (r ∷ []) (λ q z. omega arith) (λ q z. z) anew)
+        kept-trans (kept-more (p ∷ l ∷ r ∷ []) [] (p ∷ l ∷ r ∷ free) (r ∷ free) (λ q z. omega arith) (λ q z. refl) mid₂-kept)
+        (kept-more (r ∷ free) (r ∷ free) (p ∷ l ∷ r ∷ free) (r ∷ free) (λ q z. omega arith) (λ q z. z) back)
 
-    pub merge-right : nth (mergeNodes h ns p i l r) r ≡ freeVal (firstFree h)
+    pub merge-chain : All (Written (mergeNodes free ns p i l r)) (chainBlocks (returned r free))
     unfolding mergeNodes
-    merge-right = getD-set-same mid₂ r out blank (rw (mid₂-kept .long) (B .right))
+    merge-chain = return-chain mid₂ r r-in free (F .rises) (omega (arith, z r, one-self r)) (merge-frees .chain)
 
-    pub merge-parent : bodyOf (nth (mergeNodes h ns p i l r) p) ≡ record { state = P .state; pairs = removeAt (P .pairs) i; edges = removeAt (P .edges) (i + 1) }
-    unfolding mergeNodes
-    merge-parent = ap bodyOf (getD-set-other mid₂ r p out blank (B .not-right)) ∙ mid₂-re .bodies p ∙ ap bodyOf at-p
+    pub merge-parent : bodyOf (nth (mergeNodes free ns p i l r) p) ≡ record { state = P .state; pairs = removeAt (P .pairs) i; edges = removeAt (P .edges) (i + 1) }
+    merge-parent = back .bodies p (omega (arith, z p, one-self p)) ∙ mid₂-re .bodies p ∙ ap bodyOf at-p
 
-    pub merge-left : bodyOf (nth (mergeNodes h ns p i l r) l) ≡ record { state = A .state; pairs = joinedPairs ns p i l r; edges = joinedEdges ns l r }
-    unfolding mergeNodes
-    merge-left = ap bodyOf (getD-set-other mid₂ r l out blank (B .apart)) ∙ mid₂-re .bodies l ∙ ap bodyOf at-l
+    pub merge-left : bodyOf (nth (mergeNodes free ns p i l r) l) ≡ record { state = A .state; pairs = joinedPairs ns p i l r; edges = joinedEdges ns l r }
+    merge-left = back .bodies l (omega (arith, z l, one-self l)) ∙ mid₂-re .bodies l ∙ ap bodyOf at-l
 
   -- ---- moved
 

@@ -102,7 +102,7 @@ module _ {h : ℕ} (c : Ctx (suc h)) (n : ℕ) (l : List (Item (Tree h))) (d : T
   apart q = omega (arith, H .once q, has-fill (has q h) q n l d (z ∷ r))
 
   -- the same node with other items right of d
-  module _ (ns′ : List NodeVal) (K : Kept ns ns′ (n ∷ []) []) (r′ : List (Item (Tree h))) (body′ : bodyOf (nth ns′ n) ≡ contentOf h (fill n Ls (rootNo h d) (numbered h r′))) (keeps : AllIn (Stands ns′ h) (z ∷ r) → AllIn (Stands ns′ h) r′) (fewer : (q : ℕ) → hasIn (has q h) r′ ≤ has q h (z .edge) + hasIn (has q h) r) where
+  module _ (ns′ : List NodeVal) (K : Kept ns ns′ (n ∷ []) []) (r′ : List (Item (Tree h))) (body′ : bodyOf (nth ns′ n) ≡ contentOf h (fill n Ls (rootNo h d) (numbered h r′))) (keeps : AllIn (Stands ns′ h) (z ∷ r) → AllIn (Stands ns′ h) r′) (as-many : (q : ℕ) → hasIn (has q h) r′ ≡ has q h (z .edge) + hasIn (has q h) r) where
     other-items : Hole ns′ c (fill n l d r′) free
     other-items =
         let s = H .tree in
@@ -110,16 +110,18 @@ module _ {h : ℕ} (c : Ctx (suc h)) (n : ℕ) (l : List (Item (Tree h))) (d : T
         let b =
         fill-parts (Stands ns′ h) n l d r′ (all-kept ns ns′ _ _ K h l (λ q. omega (arith, apart q)) (a .0)) (stands-kept ns ns′ _ _ K h d (λ q. omega (arith, apart q)) (a .1))
         (keeps (all-kept ns ns′ _ _ K h (z ∷ r) (λ q. omega (arith, apart q)) (a .2))) in
-        let less : (q : ℕ) → has q (suc h) (fill n l d r′) ≤ has q (suc h) was = λ q. omega (arith, has-fill (has q h) q n l d r′, has-fill (has q h) q n l d (z ∷ r), fewer q) in
+        let same : (q : ℕ) → has q (suc h) (fill n l d r′) ≡ has q (suc h) was = λ q. omega (arith, has-fill (has q h) q n l d r′, has-fill (has q h) q n l d (z ∷ r), as-many q) in
         record {
           few = rw (K .long) (H .few);
           way = way-kept ns ns′ _ _ K c n (λ q. omega (arith, apart q)) (H .way);
           tree = (body′ ∙ sym (content-fill h n l d r′), b .0, b .1);
           chain = chain-kept ns ns′ _ _ K free (λ q. omega (arith, apart q)) (H .chain);
+          rises = H .rises;
           links = K .links;
           root = K .roots (rootOf c n) refl (link-parent (H .root)) ∙ H .root;
-          once = λ q. omega (arith, H .once q, less q);
-          within = λ q g. rw (K .long) (H .within q (omega (arith, less q)));
+          once = λ q. omega (arith, H .once q, same q);
+          within = λ q g. rw (K .long) (H .within q (omega (arith, same q)));
+          all = λ q g. omega (arith, H .all q (rw (K .long) at g), same q);
         }
 
   -- ---- another pair in its place

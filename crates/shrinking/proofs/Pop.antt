@@ -9,17 +9,21 @@ use native.Mathlib.Decide.{ℕ-discrete}
 use native.Mathlib.Omega.{arith}
 use lib.ListN.{length, getD, set, length-set}
 use lib.Seq.{getD-set-same, getD-set-other}
-use Rattle.model.specs.Lists.{one, times}
+use Rattle.model.specs.Lists.{All, one, times}
 use Rattle.model.specs.Layout.{none, largestCount, NodeVal, nth, blank}
-use Rattle.model.specs.Words.{freeVal}
+use Rattle.model.specs.Nodes.{returned}
+use Rattle.model.specs.Words.{chainBlocks}
+use Rattle.model.proofs.Held.{Written}
 use Rattle.model.proofs.Lists.{one-same, one-other}
-use Rattle.store.specs.Links.{bodyOf, linkOf, link, linked, withBody, firstFree}
+use Rattle.store.specs.Links.{bodyOf, linkOf, link, linked, withBody, Frees, returnNode}
 use Rattle.store.proofs.Relink.{relink-body}
-use Rattle.internal.specs.Inner.{rootOf, onlyChild, popNodes}
+use Rattle.store.proofs.Returns.{return-chain}
+use Rattle.internal.specs.Inner.{rootOf, onlyChild, popped, popNodes}
 use Rattle.standing.specs.Kept.{Child, Links, leads, Kept}
 use Rattle.standing.proofs.Leads.{one-self, times-at, leads-node, leads-set, links-edged, link-parent}
 use Rattle.standing.proofs.Relinks.{body-edges, body-state, relink-leads}
-use Rattle.standing.proofs.Changes.{root-unled, kept-trans, kept-more, anew-kept}
+use Rattle.standing.proofs.Changes.{root-unled, kept-trans, kept-more}
+use Rattle.standing.proofs.Freed.{frees-kept, return-kept}
 
 -- a node that no edge leads to gets another link
 module _ (ns : List NodeVal) (L : Links ns) (r p k : ℕ) (o : r < length ns) (live : 1 ≤ nth ns r .state) (unled : leads r ns ≡ 0) where
@@ -123,27 +127,39 @@ module _ (h : List ℕ) (ns : List NodeVal) (L : Links ns) (few : length ns ≤ 
   m-in : m < length ns₂
   m-in = rw (k₂ .long, k₁ .long) o
 
-  abbrev out : NodeVal
-  out = freeVal (firstFree h)
+  k₁₂ : Kept ns ns₂ (m ∷ []) (m ∷ r ∷ [])
+  k₁₂ = kept-trans (kept-more (m ∷ []) [] (m ∷ []) (m ∷ r ∷ []) (λ q z. z) (λ q z. refl) k₁) (kept-more [] (r ∷ []) (m ∷ []) (m ∷ r ∷ []) (λ q z. refl) (λ q z. omega arith) k₂)
 
-  k₃ : Kept ns₂ (set ns₂ m out) (m ∷ []) (m ∷ [])
-  k₃ = anew-kept ns₂ (k₂ .links) m out m-in leads-m refl
+  states : (q : ℕ) → nth ns₂ q .state ≡ nth ns q .state
+  states q = body-state (relink-body ns₁ none 0 (r ∷ []) q) ∙ same-state ns L m o q (ℕ-discrete q m)
 
   only-is : onlyChild h ns ≡ r
   only-is = rw only refl
 
-  pub pop-kept : Kept ns (popNodes h ns) (rootOf h ∷ []) (rootOf h ∷ r ∷ [])
-  unfolding popNodes
-  pop-kept =
-      rw only-is
-      (kept-trans (kept-more (m ∷ []) [] (m ∷ []) (m ∷ r ∷ []) (λ q z. z) (λ q z. refl) k₁)
-      (kept-trans (kept-more [] (r ∷ []) (m ∷ []) (m ∷ r ∷ []) (λ q z. refl) (λ q z. omega arith) k₂)
-      (kept-more (m ∷ []) (m ∷ []) (m ∷ []) (m ∷ r ∷ []) (λ q z. z) (λ q z. omega arith) k₃)))
+  module _ (free : List ℕ) (F : Frees h ns free) (z : (q : ℕ) → times q free + times q (rootOf h ∷ r ∷ []) ≤ 1) where
+    F₂ : Frees h ns₂ free
+    F₂ = frees-kept free (m ∷ []) (m ∷ r ∷ []) k₁₂ (λ q. omega (arith, z q)) states F
 
-  pub pop-free : nth (popNodes h ns) (rootOf h) ≡ freeVal (firstFree h)
-  unfolding popNodes
-  pop-free = rw only-is (getD-set-same ns₂ m out blank m-in)
+    -- the free nodes stand as they did when the root comes to them
+    pub pop-frees : Frees h (popped h ns) free
+    pop-frees = rw only-is F₂
 
-  pub pop-root : linkOf (nth (popNodes h ns) r) ≡ record { parent = none; place = 0 }
-  unfolding popNodes
-  pop-root = rw only-is (ap linkOf (getD-set-other ns₂ m r out blank child-apart ∙ getD-set-same ns₁ r (linked (nth ns₁ r) none 0) blank r-in))
+    k₃ : Kept ns₂ (returnNode ns₂ free m) (m ∷ free) (m ∷ free)
+    k₃ = return-kept ns₂ (k₂ .links) free F₂ m m-in leads-m
+
+    pub pop-kept : Kept ns (popNodes h free ns) (rootOf h ∷ free) (rootOf h ∷ r ∷ free)
+    unfolding popNodes
+    pop-kept =
+        rw only-is
+        (kept-trans (kept-more (m ∷ []) (m ∷ r ∷ []) (m ∷ free) (m ∷ r ∷ free) (λ q z. omega arith) (λ q z. omega arith) k₁₂)
+        (kept-more (m ∷ free) (m ∷ free) (m ∷ free) (m ∷ r ∷ free) (λ q z. z) (λ q z. omega arith) k₃))
+
+    pub pop-chain : All (Written (popNodes h free ns)) (chainBlocks (returned (rootOf h) free))
+    unfolding popNodes
+    pop-chain = rw only-is (return-chain ns₂ m m-in free (F .rises) (omega (arith, z m, one-self m)) (F₂ .chain))
+
+    pub pop-root : linkOf (nth (popNodes h free ns) r) ≡ record { parent = none; place = 0 }
+    unfolding popNodes
+    pop-root =
+        let e : linkOf (nth ns₂ r) ≡ record { parent = none; place = 0 } = ap linkOf (getD-set-same ns₁ r (linked (nth ns₁ r) none 0) blank r-in) in
+        rw only-is (k₃ .roots r (omega (arith, z r, one-self r)) (link-parent e) ∙ e)

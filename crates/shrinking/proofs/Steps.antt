@@ -12,18 +12,20 @@ use lib.ListN.{length, take, drop, getD, length-map}
 use Rattle.model.specs.Lists.{All, one, times}
 use Rattle.model.specs.Tree.{Pair, Item, Node, Tree, Frame, Ctx, top, under, Whole, fill, fillFirst, fillRest, Twin, hasIn, has, hasCtx}
 use Rattle.model.specs.Layout.{none, most, internal, NodeVal, nth}
+use Rattle.model.specs.Nodes.{returned}
 use Rattle.model.specs.Words.{kind, rootNo, firstOr}
 use Rattle.model.specs.Sound.{AllIn}
 use Rattle.model.specs.Insert.{cut, pairOf, edgeOf}
 use Rattle.model.specs.Remove.{join}
 use Rattle.model.proofs.Lists.{one-same}
+use Rattle.model.proofs.Frees.{returned-times, returned-rises}
 use Rattle.model.proofs.Plug.{has-fill}
 use Rattle.model.proofs.Sizes.{fill-parts}
 use Rattle.model.proofs.Cut.{join-all, cut-all, has-join, has-cut}
 use Rattle.slices.specs.Words.{removeAt}
 use Rattle.slices.proofs.Laws.{map-take, map-drop}
 use Rattle.node.specs.Reading.{pairAt}
-use Rattle.store.specs.Links.{Body, bodyOf, linkOf, firstFree, freeNodes}
+use Rattle.store.specs.Links.{Body, bodyOf, linkOf, firstFree, freeNodes, Frees}
 use Rattle.internal.specs.Inner as header
 use Rattle.internal.specs.Inner.{Branches, popNodes, PopReady}
 use Rattle.balance.specs.Moves as store
@@ -33,9 +35,10 @@ use Rattle.standing.specs.Standing.{numbered, edgesIn, content, contentOf, Stan
 use Rattle.standing.proofs.Leads.{one-self, link-parent}
 use Rattle.standing.proofs.Frames.{stands-kept, all-kept, way-kept, chain-kept}
 use Rattle.standing.proofs.Contents.{content-fill}
+use Rattle.standing.proofs.Freed.{hole-frees}
 use Rattle.shrinking.proofs.Three.{Siblings}
-use Rattle.shrinking.proofs.Moves.{merge-kept, merge-right, merge-parent, merge-left, move-kept, move-parent, move-left, move-right}
-use Rattle.shrinking.proofs.Pop.{pop-kept, pop-free, pop-root}
+use Rattle.shrinking.proofs.Moves.{merge-frees, merge-kept, merge-chain, merge-parent, merge-left, move-kept, move-parent, move-left, move-right}
+use Rattle.shrinking.proofs.Pop.{pop-frees, pop-kept, pop-chain, pop-root}
 use Rattle.shrinking.proofs.Items.{body-parts, pairIn, edgeIn, column-long, gone, there, swapped, alike, num-edge, between, map-tail, low-content, high-content}
 
 pub root-in : {h : ℕ} (c : Ctx h) (k : ℕ) → 1 ≤ hasCtx (rootOf c k) c + one k (rootOf c k)
@@ -65,6 +68,79 @@ module _ (ns : List NodeVal) (L : Links ns) (n e : ℕ) (r : List (Item ℕ)) (o
   unfolding edgesWith
   shaped zero b = let v = body-parts (nth ns n) _ b in record { node = o; edges-are = rw (v .0, v .2) refl; lead = edges-lead }
   shaped (suc h) b = record { node = o; edges-are = content-edges h b ∙ rw (body-parts (nth ns n) _ b .0) refl; lead = edges-lead }
+
+-- ---- a hole and the neighbour of what is in it
+
+module _ {h : ℕ} (c : Ctx (suc (suc h))) (n : ℕ) (l : List (Item (Tree (suc h)))) (w : Twin (Tree (suc h))) (r : List (Item (Tree (suc h)))) where
+  abbrev pub at-low : Ctx (suc h)
+  at-low = under (record { no = n; left = l; right = record { pair = w .pair; edge = w .right } ∷ r }) c
+
+  abbrev pub at-high : Ctx (suc h)
+  at-high = under (record { no = n; left = record { pair = w .pair; edge = w .left } ∷ l; right = r }) c
+
+  pub beside-low : (free : List ℕ) {ns : List NodeVal} → Hole ns at-low (w .left) free → Beside ns c n l w r free
+  beside-low free H = record {
+    few = H .few;
+    way = H .way .3;
+    body = H .way .0;
+    lefts = H .way .1;
+    low = H .tree;
+    high = H .way .2 .0;
+    rights = H .way .2 .1;
+    chain = H .chain;
+    rises = H .rises;
+    links = H .links;
+    root = H .root;
+    once = λ q. omega (arith, H .once q);
+    within = λ q g. H .within q (omega arith);
+    all = λ q g. omega (arith, H .all q g);
+  }
+
+  pub beside-high : (free : List ℕ) {ns : List NodeVal} → Hole ns at-high (w .right) free → Beside ns c n l w r free
+  beside-high free H = record {
+    few = H .few;
+    way = H .way .3;
+    body = H .way .0;
+    lefts = H .way .1 .1;
+    low = H .way .1 .0;
+    high = H .tree;
+    rights = H .way .2;
+    chain = H .chain;
+    rises = H .rises;
+    links = H .links;
+    root = H .root;
+    once = λ q. omega (arith, H .once q);
+    within = λ q g. H .within q (omega arith);
+    all = λ q g. omega (arith, H .all q g);
+  }
+
+  pub hole-low : (free : List ℕ) {ns : List NodeVal} → Beside ns c n l w r free → Hole ns at-low (w .left) free
+  hole-low free T = record {
+    few = T .few;
+    way = (T .body, T .lefts, (T .high, T .rights), T .way);
+    tree = T .low;
+    chain = T .chain;
+    rises = T .rises;
+    links = T .links;
+    root = T .root;
+    once = λ q. omega (arith, T .once q);
+    within = λ q g. T .within q (omega arith);
+    all = λ q g. omega (arith, T .all q g);
+  }
+
+  pub hole-high : (free : List ℕ) {ns : List NodeVal} → Beside ns c n l w r free → Hole ns at-high (w .right) free
+  hole-high free T = record {
+    few = T .few;
+    way = (T .body, (T .low, T .lefts), T .rights, T .way);
+    tree = T .high;
+    chain = T .chain;
+    rises = T .rises;
+    links = T .links;
+    root = T .root;
+    once = λ q. omega (arith, T .once q);
+    within = λ q g. T .within q (omega arith);
+    all = λ q g. omega (arith, T .all q g);
+  }
 
 -- ---- two neighbours
 
@@ -148,8 +224,16 @@ module _ {h : ℕ} (c : Ctx (suc (suc h))) (n : ℕ) (l : List (Item (Tree (suc 
     apart = siblings .apart;
   }
 
-  pub merge-ready : (hd : List ℕ) → length (w .left .rest) + 1 + length (w .right .rest) ≤ most → freeNodes hd < length ns → MergeReady hd ns n (length l) (w .left .no) (w .right .no)
-  merge-ready hd f u = record { beside = store-beside; fits = omega (arith, left-long, right-long); used = u }
+  -- the free nodes, under a header that says them
+  module _ (hd : List ℕ) (ef : firstFree hd ≡ firstOr free) (en : freeNodes hd ≡ length free) where
+    frees : Frees hd ns free
+    frees = hole-frees (at-low c n l w r) (w .left) free (hole-low c n l w r free T) hd ef en
+
+    apart : (q : ℕ) → times q free + times q (n ∷ w .left .no ∷ w .right .no ∷ []) ≤ 1
+    apart q = omega (arith, T .once q)
+
+    pub merge-ready : length (w .left .rest) + 1 + length (w .right .rest) ≤ most → length free < length ns → MergeReady hd ns free n (length l) (w .left .no) (w .right .no)
+    merge-ready f u = record { beside = store-beside; fits = omega (arith, left-long, right-long); out = omega (arith, T .once (b .no), one-self (b .no)); used = u; frees = merge-frees ns (T .links) n i (a .no) (b .no) siblings free frees apart }
 
   pub lends-left : (count : ℕ) → 1 ≤ count → count ≤ length (w .left .rest) → length (w .right .rest) + count ≤ most → StealReady ns n (length l) (w .left .no) (w .right .no) (w .left .no) (w .right .no) count
   lends-left count s f m = record { beside = store-beside; some = s; has = omega (arith, left-long); room = omega (arith, right-long) }
@@ -179,25 +263,25 @@ module _ {h : ℕ} (c : Ctx (suc (suc h))) (n : ℕ) (l : List (Item (Tree (suc 
 
   -- ---- a merge
 
-  module _ (hd : List ℕ) (ef : firstFree hd ≡ firstOr free) where
+  module _ (hd : List ℕ) (ef : firstFree hd ≡ firstOr free) (en : freeNodes hd ≡ length free) where
     abbrev pub after-merge : List NodeVal
-    after-merge = mergeNodes hd ns n (length l) (w .left .no) (w .right .no)
+    after-merge = mergeNodes free ns n (length l) (w .left .no) (w .right .no)
 
-    K : Kept ns after-merge (n ∷ a .no ∷ b .no ∷ []) (b .no ∷ [])
-    K = merge-kept ns (T .links) n i (a .no) (b .no) siblings hd
+    K : Kept ns after-merge (n ∷ a .no ∷ b .no ∷ free) (b .no ∷ free)
+    K = merge-kept ns (T .links) n i (a .no) (b .no) siblings free (frees hd ef en) (apart hd ef en)
 
-    inner : (t : Tree h) → ((q : ℕ) → has q h t + times q (n ∷ a .no ∷ b .no ∷ []) ≤ 1) → Stands ns h t → Stands after-merge h t
+    inner : (t : Tree h) → ((q : ℕ) → has q h t + times q (n ∷ a .no ∷ b .no ∷ free) ≤ 1) → Stands ns h t → Stands after-merge h t
     inner t z s = stands-kept ns after-merge _ _ K h t z s
 
     merged-parent : bodyOf (nth after-merge n) ≡ contentOf (suc h) (fill n Ls (a .no) Rs)
     unfolding removeAt
     merged-parent =
-        merge-parent ns (T .links) n i (a .no) (b .no) siblings hd
+        merge-parent ns (T .links) n i (a .no) (b .no) siblings free (frees hd ef en) (apart hd ef en)
         ∙ rw (parent-is .0, parent-is .1, parent-is .2, add-one, ← i-is)
         (ap₂ {C = Body} (λ (s : List Pair) (t : List ℕ). record { state = internal; pairs = s; edges = fillFirst Ls (a .no) ∷ t }) (gone n Ls (a .no) pairIn y Rs) (gone n Ls (a .no) edgeIn y Rs))
 
     merged-left : bodyOf (nth after-merge (a .no)) ≡ content h (rootNo h (a .first)) (numbered h J)
-    merged-left = merge-left ns (T .links) n i (a .no) (b .no) siblings hd ∙ rw (low-is .0, joined-pairs, joined-edges) refl
+    merged-left = merge-left ns (T .links) n i (a .no) (b .no) siblings free (frees hd ef en) (apart hd ef en) ∙ rw (low-is .0, joined-pairs, joined-edges) refl
 
     joined-stands : Stands after-merge (suc h) (join w)
     joined-stands = (
@@ -214,18 +298,20 @@ module _ {h : ℕ} (c : Ctx (suc (suc h))) (n : ℕ) (l : List (Item (Tree (suc 
     pub merge-long : length after-merge ≡ length ns
     merge-long = K .long
 
-    pub merge-step : Hole after-merge c (fill n l (join w) r) (w .right .no ∷ free)
+    pub merge-step : Hole after-merge c (fill n l (join w) r) (returned (w .right .no) free)
     merge-step =
         let parts = fill-parts (Stands after-merge (suc h)) n l (join w) r (all-kept ns after-merge _ _ K (suc h) l (λ q. omega (arith, T .once q)) (T .lefts)) joined-stands (all-kept ns after-merge _ _ K (suc h) r (λ q. omega (arith, T .once q)) (T .rights)) in
         record {
           few = rw (K .long) (T .few);
           way = way-kept ns after-merge _ _ K c n (λ q. omega (arith, T .once q)) (T .way);
           tree = (merged-parent ∙ sym (content-fill (suc h) n l (join w) r), parts .0, parts .1);
-          chain = (rw ef at (merge-right ns (T .links) n i (a .no) (b .no) siblings hd), chain-kept ns after-merge _ _ K free (λ q. omega (arith, T .once q)) (T .chain));
+          chain = merge-chain ns (T .links) n i (a .no) (b .no) siblings free (frees hd ef en) (apart hd ef en);
+          rises = returned-rises (b .no) free (λ q. omega (arith, T .once q)) (T .rises);
           links = K .links;
           root = K .roots (rootOf c n) (omega (arith, T .once (rootOf c n), root-in c n)) root-parent ∙ T .root;
-          once = λ q. omega (arith, T .once q, merge-counts q);
-          within = λ q g. rw (K .long) (T .within q (omega (arith, merge-counts q)));
+          once = λ q. omega (arith, T .once q, merge-counts q, returned-times (b .no) q free);
+          within = λ q g. rw (K .long) (T .within q (omega (arith, merge-counts q, returned-times (b .no) q free)));
+          all = λ q g. omega (arith, T .all q (rw (K .long) at g), merge-counts q, returned-times (b .no) q free);
         }
 
   -- ---- a move: m pairs to the left, the next to the parent, the rest to the right
@@ -286,80 +372,17 @@ module _ {h : ℕ} (c : Ctx (suc (suc h))) (n : ℕ) (l : List (Item (Tree (suc 
           high = (moved-high, k .1, k .2);
           rights = all-kept ns after-move _ _ Kv (suc h) r (λ q. omega (arith, T .once q)) (T .rights);
           chain = chain-kept ns after-move _ _ Kv free (λ q. omega (arith, T .once q)) (T .chain);
+          rises = T .rises;
           links = Kv .links;
           root = Kv .roots (rootOf c n) refl root-parent ∙ T .root;
           once = λ q. omega (arith, T .once q, move-counts q);
           within = λ q g. rw (Kv .long) (T .within q (omega (arith, move-counts q)));
+          all = λ q g. omega (arith, T .all q (rw (Kv .long) at g), move-counts q);
         }
-
--- ---- a hole and the neighbour of what is in it
-
-module _ {h : ℕ} (c : Ctx (suc (suc h))) (n : ℕ) (l : List (Item (Tree (suc h)))) (w : Twin (Tree (suc h))) (r : List (Item (Tree (suc h)))) where
-  abbrev pub at-low : Ctx (suc h)
-  at-low = under (record { no = n; left = l; right = record { pair = w .pair; edge = w .right } ∷ r }) c
-
-  abbrev pub at-high : Ctx (suc h)
-  at-high = under (record { no = n; left = record { pair = w .pair; edge = w .left } ∷ l; right = r }) c
-
-  pub beside-low : (free : List ℕ) {ns : List NodeVal} → Hole ns at-low (w .left) free → Beside ns c n l w r free
-  beside-low free H = record {
-    few = H .few;
-    way = H .way .3;
-    body = H .way .0;
-    lefts = H .way .1;
-    low = H .tree;
-    high = H .way .2 .0;
-    rights = H .way .2 .1;
-    chain = H .chain;
-    links = H .links;
-    root = H .root;
-    once = λ q. omega (arith, H .once q);
-    within = λ q g. H .within q (omega arith);
-  }
-
-  pub beside-high : (free : List ℕ) {ns : List NodeVal} → Hole ns at-high (w .right) free → Beside ns c n l w r free
-  beside-high free H = record {
-    few = H .few;
-    way = H .way .3;
-    body = H .way .0;
-    lefts = H .way .1 .1;
-    low = H .way .1 .0;
-    high = H .tree;
-    rights = H .way .2;
-    chain = H .chain;
-    links = H .links;
-    root = H .root;
-    once = λ q. omega (arith, H .once q);
-    within = λ q g. H .within q (omega arith);
-  }
-
-  pub hole-low : (free : List ℕ) {ns : List NodeVal} → Beside ns c n l w r free → Hole ns at-low (w .left) free
-  hole-low free T = record {
-    few = T .few;
-    way = (T .body, T .lefts, (T .high, T .rights), T .way);
-    tree = T .low;
-    chain = T .chain;
-    links = T .links;
-    root = T .root;
-    once = λ q. omega (arith, T .once q);
-    within = λ q g. T .within q (omega arith);
-  }
-
-  pub hole-high : (free : List ℕ) {ns : List NodeVal} → Beside ns c n l w r free → Hole ns at-high (w .right) free
-  hole-high free T = record {
-    few = T .few;
-    way = (T .body, (T .low, T .lefts), T .rights, T .way);
-    tree = T .high;
-    chain = T .chain;
-    links = T .links;
-    root = T .root;
-    once = λ q. omega (arith, T .once q);
-    within = λ q g. T .within q (omega arith);
-  }
 
 -- ---- a root without pairs is taken off
 
-module _ {h : ℕ} (t : Tree (suc (suc h))) (free : List ℕ) {ns : List NodeVal} (H : Hole ns (top {h = suc (suc h)}) t free) (bare : t .rest ≡ []) (hd : List ℕ) (er : header.rootOf hd ≡ t .no) (ef : firstFree hd ≡ firstOr free) where
+module _ {h : ℕ} (t : Tree (suc (suc h))) (free : List ℕ) {ns : List NodeVal} (H : Hole ns (top {h = suc (suc h)}) t free) (bare : t .rest ≡ []) (hd : List ℕ) (er : header.rootOf hd ≡ t .no) (ef : firstFree hd ≡ firstOr free) (en : freeNodes hd ≡ length free) where
   no-in : t .no < length ns
   no-in = H .within (t .no) (omega (arith, one-self (t .no)))
 
@@ -369,7 +392,13 @@ module _ {h : ℕ} (t : Tree (suc (suc h))) (free : List ℕ) {ns : List NodeVal
   pub only-child : header.onlyChild hd ns ≡ t .first .no
   only-child = rw (er, only) refl
 
-  pub pop-ready : 1 ≤ header.heightOf hd → freeNodes hd < length ns → PopReady hd ns
+  frees-here : Frees hd ns free
+  frees-here = hole-frees (top {h = suc (suc h)}) t free H hd ef en
+
+  two-apart : (q : ℕ) → times q free + times q (t .no ∷ t .first .no ∷ []) ≤ 1
+  two-apart q = omega (arith, H .once q)
+
+  pub pop-ready : 1 ≤ header.heightOf hd → length free < length ns → PopReady hd ns free
   pop-ready k u =
       record {
         root = rw er no-in;
@@ -377,23 +406,30 @@ module _ {h : ℕ} (t : Tree (suc (suc h))) (free : List ℕ) {ns : List NodeVal
         one-edge = rw (er, only) refl;
         child = rw (er, only) (H .within (t .first .no) (omega (arith, one-self (t .first .no))));
         height = k;
+        out = rw er (omega (arith, H .once (t .no), one-self (t .no)));
         used = u;
+        frees = pop-frees hd ns (H .links) (H .few) (t .first .no) (rw er no-in) (rw er only) (rw er (link-parent (H .root))) free frees-here (rw er two-apart);
       }
 
-  Kp : Kept ns (popNodes hd ns) (t .no ∷ []) (t .no ∷ t .first .no ∷ [])
-  Kp = rw er at (pop-kept hd ns (H .links) (H .few) (t .first .no) (rw er no-in) (rw er only) (rw er (link-parent (H .root))))
+  Kp : Kept ns (popNodes hd free ns) (t .no ∷ free) (t .no ∷ t .first .no ∷ free)
+  Kp = rw er at (pop-kept hd ns (H .links) (H .few) (t .first .no) (rw er no-in) (rw er only) (rw er (link-parent (H .root))) free frees-here (rw er two-apart))
 
-  pub pop-long : length (popNodes hd ns) ≡ length ns
+  pub pop-long : length (popNodes hd free ns) ≡ length ns
   pop-long = Kp .long
 
-  pub pop-step : Closed (popNodes hd ns) (record { height = suc h; root = t .first }) (t .no ∷ free)
+  bare-has : (q : ℕ) → hasIn (has q (suc h)) (t .rest) ≡ 0
+  bare-has q = rw bare refl
+
+  pub pop-step : Closed (popNodes hd free ns) (record { height = suc h; root = t .first }) (returned (t .no) free)
   pop-step = record {
     few = rw (Kp .long) (H .few);
     way = tt;
-    tree = stands-kept ns (popNodes hd ns) _ _ Kp (suc h) (t .first) (λ q. omega (arith, H .once q)) (H .tree .1);
-    chain = (rw (er, ef) at (pop-free hd ns (H .links) (H .few) (t .first .no) (rw er no-in) (rw er only) (rw er (link-parent (H .root)))), chain-kept ns (popNodes hd ns) _ _ Kp free (λ q. omega (arith, H .once q)) (H .chain));
+    tree = stands-kept ns (popNodes hd free ns) _ _ Kp (suc h) (t .first) (λ q. omega (arith, H .once q)) (H .tree .1);
+    chain = rw er at (pop-chain hd ns (H .links) (H .few) (t .first .no) (rw er no-in) (rw er only) (rw er (link-parent (H .root))) free frees-here (rw er two-apart));
+    rises = returned-rises (t .no) free (λ q. omega (arith, H .once q)) (H .rises);
     links = Kp .links;
-    root = pop-root hd ns (H .links) (H .few) (t .first .no) (rw er no-in) (rw er only) (rw er (link-parent (H .root)));
-    once = λ q. omega (arith, H .once q);
-    within = λ q k. rw (Kp .long) (H .within q (omega arith));
+    root = pop-root hd ns (H .links) (H .few) (t .first .no) (rw er no-in) (rw er only) (rw er (link-parent (H .root))) free frees-here (rw er two-apart);
+    once = λ q. omega (arith, H .once q, returned-times (t .no) q free, bare-has q);
+    within = λ q k. rw (Kp .long) (H .within q (omega (arith, returned-times (t .no) q free)));
+    all = λ q k. omega (arith, H .all q (rw (Kp .long) at k), returned-times (t .no) q free, bare-has q);
   }

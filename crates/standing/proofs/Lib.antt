@@ -4,4 +4,5 @@ pub mod Changes
 pub mod Frames
 pub mod Contents
 pub mod Scenes
+pub mod Freed
 pub mod Heads

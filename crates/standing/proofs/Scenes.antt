@@ -9,7 +9,7 @@ use native.Mathlib.Decide.{decLt}
 use native.Mathlib.Omega.{arith}
 use lib.Dec.{ltb}
 use lib.ListN.{length, getD, List·getD-eq-default}
-use borrow.Author.Tests.{ltb-true}
+use borrow.Author.Tests.{ltb-true, lt-ltb}
 use Rattle.model.specs.Lists.{All, one, times}
 use Rattle.model.specs.Layout.{none, NodeVal, nth, blank, Arena}
 use Rattle.model.specs.Tree.{Item, Node, Tree, Frame, Ctx, top, under, Whole, plug, fill, hasIn, has, hasCtx, hasWhole}
@@ -42,10 +42,12 @@ module _ {h : ℕ} (f : Frame (Tree h)) (c : Ctx (suc h)) (t : Tree h) (free : L
         way = w .3;
         tree = (w .0 ∙ sym (content-fill h (f .no) (f .left) t (f .right)), p .0, p .1);
         chain = H .chain;
+        rises = H .rises;
         links = H .links;
         root = H .root;
         once = λ m. omega (arith, H .once m, same-has m);
         within = λ m u. H .within m (omega (arith, same-has m));
+        all = λ m u. omega (arith, H .all m u, same-has m);
       }
 
   pub zoom-in : {ns : List NodeVal} → Hole ns c (fill (f .no) (f .left) t (f .right)) free → Hole ns (under f c) t free
@@ -57,10 +59,12 @@ module _ {h : ℕ} (f : Frame (Tree h)) (c : Ctx (suc h)) (t : Tree h) (free : L
         way = (s .0 ∙ content-fill h (f .no) (f .left) t (f .right), p .0, p .2, H .way);
         tree = p .1;
         chain = H .chain;
+        rises = H .rises;
         links = H .links;
         root = H .root;
         once = λ m. omega (arith, H .once m, same-has m);
         within = λ m u. H .within m (omega (arith, same-has m));
+        all = λ m u. omega (arith, H .all m u, same-has m);
       }
 
 pub close : {ns : List NodeVal} {h : ℕ} (c : Ctx h) (t : Tree h) (free : List ℕ) → Hole ns c t free → Closed ns (plug c t) free
@@ -171,10 +175,12 @@ module _ {s : State} (o : Laid s) where
         way = tt;
         tree = stands-of (nodesIn s) (s .whole .height) none 0 (s .whole .root) t;
         chain = all-right (Written (nodesIn s)) (blocks (s .whole .height) none 0 (s .whole .root)) (chainBlocks (s .free)) a;
+        rises = o .chain-rises;
         links = state-links;
         root = root (s .whole .height) (s .whole .root) (o .tall) t;
         once = λ m. once m;
         within = λ m u. inside m u;
+        all = λ m u. every m u;
       }
     where
       root : (h : ℕ) (t : Tree h) → 1 ≤ h → All (Written (nodesIn s)) (blocks h none 0 t) → linkOf (nth (nodesIn s) (rootNo h t)) ≡ atRoot
@@ -194,6 +200,9 @@ module _ {s : State} (o : Laid s) where
 
       inside : (m : ℕ) → 1 ≤ 0 + has m (s .whole .height) (s .whole .root) + times m (s .free) → m < length (nodesIn s)
       inside m u = rw (held .many) (some-cond m (ltb m (s .size)) refl (omega (arith, o .once m)))
+
+      every : (m : ℕ) → m < length (nodesIn s) → 1 ≤ 0 + has m (s .whole .height) (s .whole .root) + times m (s .free)
+      every m u = omega (arith, o .once m, ap {B = ℕ} (λ (b : Bool). cond b 1 0) (lt-ltb m (s .size) (omega (arith, held .many))))
 
 pub closed-of : {w : List ℕ} {s : State} → Holds w s → Closed (nodesIn s) (s .whole) (s .free)
 closed-of o = laid-closed (sound-laid (o .sound))

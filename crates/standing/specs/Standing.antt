@@ -4,7 +4,7 @@ use Prim.Native.Nat.{ℕ, zero, suc, _+_, _≤_, _<_}
 use mathlib.Core.Path.{_≡_}
 use mathlib.Core.List.{List, [], _∷_, map}
 use lib.ListN.{length}
-use Rattle.model.specs.Lists.{All, one, times}
+use Rattle.model.specs.Lists.{All, Rises, one, times}
 use Rattle.model.specs.Layout.{none, largestCount, NodeVal, nth}
 use Rattle.model.specs.Tree.{Pair, Item, Node, Tree, Frame, Ctx, top, under, Whole, fill, Twin, hasIn, has, hasCtx, hasWhole}
 use Rattle.model.specs.Words.{kind, rootNo, chainBlocks}
@@ -57,10 +57,12 @@ pub record Hole (ns : List NodeVal) {h : ℕ} (c : Ctx h) (t : Tree h) (free : L
   pub way : Way ns c (rootNo h t)
   pub tree : Stands ns h t
   pub chain : All (Written ns) (chainBlocks free)
+  pub rises : Rises free
   pub links : Links ns
   pub root : linkOf (nth ns (rootOf c (rootNo h t))) ≡ atRoot
   pub once : (m : ℕ) → counts m c (has m h t) free ≤ 1
   pub within : (m : ℕ) → 1 ≤ counts m c (has m h t) free → m < length ns
+  pub all : (m : ℕ) → m < length ns → 1 ≤ counts m c (has m h t) free
 
 -- the same, seen from two neighbours, which stand left and right of a pair of the node n
 pub record Beside (ns : List NodeVal) {h : ℕ} (c : Ctx (suc (suc h))) (n : ℕ) (l : List (Item (Tree (suc h)))) (w : Twin (Tree (suc h))) (r : List (Item (Tree (suc h)))) (free : List ℕ) : Type 0 where
@@ -72,10 +74,12 @@ pub record Beside (ns : List NodeVal) {h : ℕ} (c : Ctx (suc (suc h))) (n : ℕ
   pub high : Stands ns (suc h) (w .right)
   pub rights : AllIn (Stands ns (suc h)) r
   pub chain : All (Written ns) (chainBlocks free)
+  pub rises : Rises free
   pub links : Links ns
   pub root : linkOf (nth ns (rootOf c n)) ≡ atRoot
   pub once : (m : ℕ) → counts m c (one n m + (hasIn (has m (suc h)) l + (has m (suc h) (w .left) + (has m (suc h) (w .right) + hasIn (has m (suc h)) r)))) free ≤ 1
   pub within : (m : ℕ) → 1 ≤ counts m c (one n m + (hasIn (has m (suc h)) l + (has m (suc h) (w .left) + (has m (suc h) (w .right) + hasIn (has m (suc h)) r)))) free → m < length ns
+  pub all : (m : ℕ) → m < length ns → 1 ≤ counts m c (one n m + (hasIn (has m (suc h)) l + (has m (suc h) (w .left) + (has m (suc h) (w .right) + hasIn (has m (suc h)) r)))) free
 
 -- no edge leads to a tree
 abbrev pub Loose : List NodeVal → (h : ℕ) → Tree h → Type 0
@@ -90,10 +94,12 @@ pub record Open (ns : List NodeVal) {h : ℕ} (c : Ctx h) (x y : Tree h) (free :
   pub high : Stands ns h y
   pub loose : Loose ns h y
   pub chain : All (Written ns) (chainBlocks free)
+  pub rises : Rises free
   pub links : Links ns
   pub root : linkOf (nth ns (rootOf c (rootNo h x))) ≡ atRoot
   pub once : (m : ℕ) → counts m c (has m h x + has m h y) free ≤ 1
   pub within : (m : ℕ) → 1 ≤ counts m c (has m h x + has m h y) free → m < length ns
+  pub all : (m : ℕ) → m < length ns → 1 ≤ counts m c (has m h x + has m h y) free
 
 -- the nodes of a whole tree, and the free nodes
 abbrev pub Closed : List NodeVal → Whole → List ℕ → Type 0

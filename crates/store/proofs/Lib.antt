@@ -2,4 +2,6 @@
 -- Assumes nothing.
 pub mod All
 pub mod Relink
+pub mod Returns
+pub mod Searches
 pub mod Chain

@@ -1,13 +1,17 @@
 -- Changes of the list of nodes and of the header: a node taken, a node returned, children linked to their parent.
 -- Assumes nothing.
-use Prim.Native.Nat.{ℕ, suc, _+_, _-_, _≤_, _<_}
+use Prim.Native.Nat.{ℕ, suc, _≤_, _<_}
 use mathlib.Core.Path.{_≡_}
+use mathlib.Core.Bool.{cond}
 use mathlib.Core.List.{List, [], _∷_}
+use lib.Dec.{ltb}
 use lib.ListN.{length, set, drop}
-use Rattle.model.specs.Lists.{All}
+use Rattle.model.specs.Lists.{All, Rises, times}
 use Rattle.model.specs.Tree.{Pair}
-use Rattle.model.specs.Layout.{none, header, firstFreeWord, freeWord, NodeVal, nth}
-use Rattle.model.specs.Words.{freeVal}
+use Rattle.model.specs.Layout.{none, largestCount, header, firstFreeWord, freeWord, NodeVal, nth}
+use Rattle.model.specs.Nodes.{taken, untaken, returned}
+use Rattle.model.specs.Words.{freeVal, firstOr, chainBlocks}
+use Rattle.model.specs.Words.{Written}
 
 -- ---- a node's body and its link: what it holds, and where it hangs
 
@@ -49,32 +53,63 @@ withFree h first n = set (set h firstFreeWord first) freeWord n
 abbrev pub fresh : ℕ → NodeVal
 fresh st = record { state = st; parent = none; place = 0; pairs = []; edges = [] }
 
--- the first free node taken, to be a node of state st
-abbrev pub takeHead : List ℕ → List NodeVal → List ℕ
-takeHead h ns = withFree h (nth ns (firstFree h) .parent) (freeNodes h - 1)
+-- the free nodes, as a list: a rising chain, of which the header says the first and how many; no other node has their state
+pub record Frees (h : List ℕ) (ns : List NodeVal) (free : List ℕ) : Type 0 where
+  pub few : length ns ≤ largestCount
+  pub first : firstFree h ≡ firstOr free
+  pub many : freeNodes h ≡ length free
+  pub chain : All (Written ns) (chainBlocks free)
+  pub inside : All (λ (x : ℕ). x < length ns) free
+  pub rises : Rises free
+  pub only : (q : ℕ) → q < length ns → nth ns q .state ≡ 0 → 1 ≤ times q free
 
-abbrev pub takeNode : List ℕ → List NodeVal → ℕ → List NodeVal
-takeNode h ns st = set ns (firstFree h) (fresh st)
+-- the first of them taken, to be a node of state st
+abbrev pub takeHead : List ℕ → List ℕ → List ℕ
+takeHead h free = withFree h (firstOr (untaken free)) (length (untaken free))
 
--- there is a free node
-pub record TakeReady (h : List ℕ) (ns : List NodeVal) : Type 0 where
-  pub some : 1 ≤ freeNodes h
-  pub node : firstFree h < length ns
-  pub is-free : nth ns (firstFree h) ≡ freeVal (nth ns (firstFree h) .parent)
+abbrev pub takeNode : List NodeVal → List ℕ → ℕ → List NodeVal
+takeNode ns free st = set ns (taken free) (fresh st)
 
--- the node n returned: it becomes the first
-abbrev pub returnHead : List ℕ → ℕ → List ℕ
-returnHead h n = withFree h n (freeNodes h + 1)
+-- there is one
+pub record TakeReady (h : List ℕ) (ns : List NodeVal) (free : List ℕ) : Type 0 where
+  pub some : 1 ≤ length free
+  pub frees : Frees h ns free
 
-abbrev pub returnNode : List ℕ → List NodeVal → ℕ → List NodeVal
-returnNode h ns n = set ns n (freeVal (firstFree h))
+abbrev pub Takeable : List ℕ → List NodeVal → Type 0
+Takeable h ns = (free : List ℕ) × TakeReady h ns free
 
--- n is empty, and not all nodes are free
-pub record ReturnReady (h : List ℕ) (ns : List NodeVal) (n : ℕ) : Type 0 where
+-- the last of a rising list below n, p if none is; and the first that is not, or NONE
+abbrev pub lastBelow : ℕ → ℕ → List ℕ → ℕ
+lastBelow n p [] = p
+lastBelow n p (x ∷ free) = cond (ltb x n) (lastBelow n x free) p
+
+abbrev pub firstFrom : ℕ → List ℕ → ℕ
+firstFrom n [] = none
+firstFrom n (x ∷ free) = cond (ltb x n) (firstFrom n free) x
+
+-- the node n returned to its place in the chain: it becomes the first, or comes behind the last one below it
+abbrev pub returnHead : List ℕ → List ℕ → ℕ → List ℕ
+returnHead h free n = withFree h (firstOr (returned n free)) (length (returned n free))
+
+abbrev pub behind : List NodeVal → ℕ → ℕ → List ℕ → List NodeVal
+behind ns n p free = set (set ns n (freeVal (firstFrom n free))) (lastBelow n p free) (freeVal n)
+
+unfoldable pub returnNode : List NodeVal → List ℕ → ℕ → List NodeVal
+returnNode ns [] n = set ns n (freeVal none)
+returnNode ns (x ∷ free) n = cond (ltb x n) (behind ns n x free) (set ns n (freeVal x))
+
+-- n is empty and not free, and not all nodes are free
+pub record ReturnReady (h : List ℕ) (ns : List NodeVal) (free : List ℕ) (n : ℕ) : Type 0 where
   pub node : n < length ns
   pub no-pairs : nth ns n .pairs ≡ []
   pub no-edges : nth ns n .edges ≡ []
-  pub used : freeNodes h < length ns
+  pub out : times n free ≡ 0
+  pub used : length free < length ns
+  pub frees : Frees h ns free
+
+-- for some list
+abbrev pub Returnable : List ℕ → List NodeVal → ℕ → Type 0
+Returnable h ns n = (free : List ℕ) × ReturnReady h ns free n
 
 -- ---- links
 

@@ -11,18 +11,21 @@ use node::STATE;
 use node::edge;
 use node::node_base;
 use node::parent;
+use node::state;
 ghost use mathlib.Core.Path.{_≡_};
-ghost use mathlib.Core.List.{List};
+ghost use mathlib.Core.List.{List, []};
 ghost use Prim.Native.Nat.{ℕ, _<_, _≤_};
-ghost use lib.ListN.{length};
-ghost use Rattle.model.specs.Layout.{none, NodeVal, Arena};
+ghost use lib.ListN.{length, set};
+ghost use Rattle.model.specs.Layout.{none, NodeVal, nth, Arena};
+ghost use Rattle.model.specs.Nodes.{taken};
+ghost use Rattle.model.specs.Words.{freeVal};
 ghost use Rattle.node.specs.Reading.{Within, Has};
-ghost use Rattle.store.specs.Links.{TakeReady, ReturnReady, LinkReady, firstFree, takeHead, takeNode, returnHead, returnNode, link, relinkFrom};
+ghost use Rattle.store.specs.Links.{TakeReady, Takeable, ReturnReady, Returnable, LinkReady, lastBelow, takeHead, takeNode, returnHead, returnNode, link, relinkFrom};
 
-// Takes the first free node, as an empty node of a state.
+// Takes the first free node, the one with the lowest number, as an empty node of a state.
 pub fn take_node(a: &mut [u64], state: u64) -> NodeNo
-    requires { ⌜ Has (now a) (λ h ns. TakeReady h ns) ⌝ }
-    ensures { λ r. ⌜ ((h : List ℕ) (ns : List NodeVal) → TakeReady h ns → Arena (now (a .entry)) h ns → (r .0 ≡ firstFree h) × Arena (now (a .exit)) (takeHead h ns) (takeNode h ns state)) ⌝ }
+    requires { ⌜ Has (now a) (λ h ns. Takeable h ns) ⌝ }
+    ensures { λ r. ⌜ ((h : List ℕ) (ns : List NodeVal) (free : List ℕ) → TakeReady h ns free → Arena (now (a .entry)) h ns → (r .0 ≡ taken free) × Arena (now (a .exit)) (takeHead h free) (takeNode ns free state)) ⌝ }
 {
     let n = NodeNo(a[FIRST_FREE] as usize);
     let next = parent(a, n);
@@ -35,18 +38,55 @@ pub fn take_node(a: &mut [u64], state: u64) -> NodeNo
     n
 }
 
-// Returns an empty node: it becomes the first free one.
-pub fn return_node(a: &mut [u64], n: NodeNo)
-    requires { ⌜ Has (now a) (λ h ns. ReturnReady h ns (n .0)) ⌝ }
-    ensures { λ _. ⌜ ((h : List ℕ) (ns : List NodeVal) → ReturnReady h ns (n .0) → Arena (now (a .entry)) h ns → Arena (now (a .exit)) (returnHead h (n .0)) (returnNode h ns (n .0))) ⌝ }
+// The last free node before n, or NONE. It is sought in turns along the chain and downwards from n, so that it costs no more than
+// twice the nearer way.
+fn free_before(a: &[u64], n: NodeNo) -> u64
+    requires { ⌜ Has (now a) (λ h ns. Returnable h ns (n .0)) ⌝ }
+    ensures { λ r. ⌜ ((h : List ℕ) (ns : List NodeVal) (free : List ℕ) → ReturnReady h ns free (n .0) → Arena (now (a .entry)) h ns → r ≡ lastBelow (n .0) none free) ⌝ }
 {
-    let next = a[FIRST_FREE];
-    let left = a[FREE_NODES] + 1;
+    let mut before = NONE;
+    let mut next = a[FIRST_FREE];
+    let mut down = n.0;
+    while next < n.0 as u64 {
+        down -= 1;
+        if state(a, NodeNo(down)) == FREE {
+            return down as u64;
+        }
+        before = next;
+        next = parent(a, NodeNo(next as usize));
+    }
+    before
+}
+
+// An empty node becomes a free one, with the next of the chain.
+fn set_free(a: &mut [u64], n: NodeNo, next: u64)
+    requires { ⌜ Within (now a) (n .0) ⌝ }
+    ensures { λ _. ⌜ ((h : List ℕ) (ns : List NodeVal) → n .0 < length ns → nth ns (n .0) .pairs ≡ [] → nth ns (n .0) .edges ≡ [] → Arena (now (a .entry)) h ns → Arena (now (a .exit)) h (set ns (n .0) (freeVal next))) ⌝ }
+{
     let b = node_base(n);
     a[b + STATE] = FREE;
     a[b + PARENT] = next;
     a[b + PARENT_IDX] = 0;
-    a[FIRST_FREE] = n.0 as u64;
+}
+
+// Returns an empty node to its place in the chain.
+pub fn return_node(a: &mut [u64], n: NodeNo)
+    requires { ⌜ Has (now a) (λ h ns. Returnable h ns (n .0)) ⌝ }
+    ensures { λ _. ⌜ ((h : List ℕ) (ns : List NodeVal) (free : List ℕ) → ReturnReady h ns free (n .0) → Arena (now (a .entry)) h ns → Arena (now (a .exit)) (returnHead h free (n .0)) (returnNode ns free (n .0))) ⌝ }
+{
+    let left = a[FREE_NODES] + 1;
+    let before = free_before(a, n);
+    if before == NONE {
+        let first = a[FIRST_FREE];
+        set_free(a, n, first);
+        a[FIRST_FREE] = n.0 as u64;
+        a[FREE_NODES] = left;
+        return;
+    }
+    let low = NodeNo(before as usize);
+    let next = parent(a, low);
+    set_free(a, n, next);
+    set_free(a, low, n.0 as u64);
     a[FREE_NODES] = left;
 }
 

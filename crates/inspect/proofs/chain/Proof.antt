@@ -42,6 +42,14 @@ returns-2 c =
 parent-requires : tie.Need-parent-requires Inv-loop μ-loop
 parent-requires c κs = search needs
 
+returns-3 : tie.Need-returns-3 Inv-loop μ-loop
+returns-3 c =
+    λ h.
+    let l = c .before .before .before .before .before .before in
+    let x = l .before .before .args in
+    let o = chain-out (x .a .now) (x .count) (l .loop .left) (l .loop .at) (c .before .before .before .before .before .loop-test .taken) (l .loop .inv .1 h) in
+    omega (arith, o .0 .rise, c .before .parent .ensures, c .if3 .taken)
+
 sub-left : tie.Need-sub-left Inv-loop μ-loop
 sub-left c = search needs
 
@@ -50,17 +58,17 @@ loop-less c = search needs
 
 loop-again : tie.Need-loop-again Inv-loop μ-loop
 loop-again c =
-    let l = c .before .before .before .before .before in
+    let l = c .before .before .before .before .before .before in
     let x = l .before .before .args in
-    let some = c .before .before .before .before .loop-test .taken in
-    let f = c .before .before .own-free in
-    let e = c .parent .ensures in (
-      (λ h. l .loop .inv .0 (chain-in (x .a .now) (x .count) (l .loop .left) (l .loop .at) some (record { inside = c .before .before .before .if1 .left; zero = decided (f .result) (f .ensures) (c .before .if2 .left) }) (rw e at h))),
+    let some = c .before .before .before .before .before .loop-test .taken in
+    let f = c .before .before .before .own-free in
+    let e = c .before .parent .ensures in (
+      (λ h. l .loop .inv .0 (chain-in (x .a .now) (x .count) (l .loop .left) (l .loop .at) some (record { inside = c .before .before .before .before .if1 .left; zero = decided (f .result) (f .ensures) (c .before .before .if2 .left); rise = omega (arith, e, c .if3 .left) }) (rw e at h))),
       λ h. rw e (chain-out (x .a .now) (x .count) (l .loop .left) (l .loop .at) some (l .loop .inv .1 h) .1),
     )
 
-returns-3 : tie.Need-returns-3 Inv-loop μ-loop
-returns-3 c =
+returns-4 : tie.Need-returns-4 Inv-loop μ-loop
+returns-4 c =
     let l = c .before in
     let x = l .before .before .args in
     let z : l .loop .left ≡ 0 = omega arith in
@@ -77,7 +85,8 @@ chain-spec =
     own-free-requires
     returns-2
     parent-requires
+    returns-3
     sub-left
     loop-less
     loop-again
-    returns-3)
+    returns-4)

@@ -1,105 +1,111 @@
--- `store::return_node` meets its contract.
+-- `store::return_node` meets its contract: the first, or behind the one that is before it.
 -- Assumes nothing.
+use mathlib.Core.Path.{refl, sym, _∙_}
 use native.Mathlib.Omega.{arith}
-use lib.ListN.{length-set}
-use Rattle.store.proofs.Chain.{return-here, returned}
+use lib.ListN.{set, length-set}
+use Rattle.model.specs.Layout.{nth, Arena}
+use Rattle.model.specs.Words.{freeVal}
+use Rattle.node.proofs.Reading.{within, parent-is}
+use Rattle.store.proofs.Chain.{return-here, first-is, returned-first, before-in, before-bare, returned-behind}
 use borrow.Author.Needs.{needs}
 use Rattle.store.proofs.return_node.Statement.{statement}
 use Rattle.store.proofs.return_node.Tie as tie
 
-slice-read-next : tie.Need-slice-read-next
-slice-read-next c =
-    let k = return-here (c .before .before .pre) in
-    omega arith
-
 slice-read-left : tie.Need-slice-read-left
 slice-read-left c =
-    let k = return-here (c .before .before .before .pre) in
+    let k = return-here (c .before .before .pre) in
     omega arith
 
 add-left : tie.Need-add-left
 add-left c =
-    let k = return-here (c .before .before .before .pre) in
+    let k = return-here (c .before .before .pre) in
     omega arith
 
-node-base-requires : tie.Need-node-base-requires
-node-base-requires c κs =
-    let k = return-here (c .before .before .before .pre) in
+free-before-requires : tie.Need-free-before-requires
+free-before-requires c κs = search needs
+
+slice-read-first : tie.Need-slice-read-first
+slice-read-first c =
+    let k = return-here (c .before .before .before .before .before .before .pre) in
     omega arith
 
-add-a : tie.Need-add-a
-add-a c = search needs
-
-mul-a : tie.Need-mul-a
-mul-a c =
-    let k = return-here (c .before .before .before .before .pre) in
+set-free-requires : tie.Need-set-free-requires
+set-free-requires c κs =
+    let k = return-here (c .before .before .before .before .before .before .before .pre) in
     omega arith
 
 slice-write-a : tie.Need-slice-write-a
 slice-write-a c =
-    let k = return-here (c .before .before .before .before .pre) in
-    omega arith
-
-add-a-2 : tie.Need-add-a-2
-add-a-2 c = search needs
-
-mul-a-2 : tie.Need-mul-a-2
-mul-a-2 c =
-    let k = return-here (c .before .before .before .before .pre) in
+    let k = return-here (c .before .before .before .before .before .before .before .before .before .before .pre) in
     omega arith
 
 slice-write-a-2 : tie.Need-slice-write-a-2
 slice-write-a-2 c =
-    let k = return-here (c .before .before .before .before .pre) in
-    simp length-set (omega arith)
-
-add-a-3 : tie.Need-add-a-3
-add-a-3 c = search needs
-
-mul-a-3 : tie.Need-mul-a-3
-mul-a-3 c =
-    let k = return-here (c .before .before .before .before .pre) in
-    omega arith
-
-slice-write-a-3 : tie.Need-slice-write-a-3
-slice-write-a-3 c =
-    let k = return-here (c .before .before .before .before .pre) in
-    simp length-set (omega arith)
-
-slice-write-a-4 : tie.Need-slice-write-a-4
-slice-write-a-4 c =
-    let k = return-here (c .before .before .before .before .pre) in
-    simp length-set (omega arith)
-
-slice-write-a-5 : tie.Need-slice-write-a-5
-slice-write-a-5 c =
-    let k = return-here (c .before .before .before .before .pre) in
+    let k = return-here (c .before .before .before .before .before .before .before .before .before .before .pre) in
     simp length-set (omega arith)
 
 same-length : tie.Need-same-length
 same-length c = search needs
 
 returns : tie.Need-returns
-returns c = λ h ns r a. returned a (c .before .before .before .before .args .n .0) (c .node-base .result) r (c .node-base .ensures)
+returns c =
+    λ h ns free r a.
+    let x = c .before .before .before .before .before .before .before .before .before .before .args in
+    let e = c .before .before .before .before .before .before .free-before .ensures h ns free r a in
+    returned-first a free (x .n .0) _ r refl (sym e ∙ c .before .before .before .before .before .if1 .taken) (rw (first-is a free (x .n .0) _ r refl) at (c .before .before .set-free .ensures h ns (r .node) (r .no-pairs) (r .no-edges) a))
+
+parent-requires : tie.Need-parent-requires
+parent-requires c κs =
+    let p = c .before .before .before .before .before .before .pre in
+    let e = c .before .before .free-before .ensures (p .head) (p .nodes) (p .holds .0) (p .holds .1) (p .arena) in
+    within (p .arena) _ (before-in (p .arena) (p .holds .0) _ _ (p .holds .1) refl _ e (c .before .if1 .left))
+
+set-free-requires-2 : tie.Need-set-free-requires-2
+set-free-requires-2 c κs =
+    let k = return-here (c .before .before .before .before .before .before .before .before .pre) in
+    omega arith
+
+set-free-requires-3 : tie.Need-set-free-requires-3
+set-free-requires-3 c κs =
+    let p = c .before .before .before .before .before .before .before .before .before .before .before .before .pre in
+    let e = c .before .before .before .before .before .before .before .before .free-before .ensures (p .head) (p .nodes) (p .holds .0) (p .holds .1) (p .arena) in
+    omega (arith, within (p .arena) _ (before-in (p .arena) (p .holds .0) _ _ (p .holds .1) refl _ e (c .before .before .before .before .before .before .before .if1 .left)))
+
+slice-write-a-3 : tie.Need-slice-write-a-3
+slice-write-a-3 c =
+    let k = return-here (c .before .before .before .before .before .before .before .before .before .before .before .before .before .before .before .pre) in
+    omega arith
+
+same-length-2 : tie.Need-same-length-2
+same-length-2 c = simp length-set (omega arith)
+
+returns-2 : tie.Need-returns-2
+returns-2 c = λ h ns free r a.
+    let n = c .before .before .before .before .before .before .before .before .before .before .before .before .before .before .before .args .n .0 in
+    let p = c .before .before .before .before .before .before .before .before .before .before .before .free-before .result in
+    let e = c .before .before .before .before .before .before .before .before .before .before .before .free-before .ensures h ns free r a in
+    let d = c .before .before .before .before .before .before .before .before .before .before .if1 .left in
+    let u = c .before .before .before .before .before .before .before .before .parent .ensures ∙ parent-is a p (before-in a free n _ r refl p e d) in
+    let s : Arena (c .before .before .before .before .before .before .set-free2 .last .0) h (set ns n (freeVal (nth ns p .parent))) = rw u at (c .before .before .before .before .before .before .set-free2 .ensures h ns (r .node) (r .no-pairs) (r .no-edges) a) in
+    let k = before-bare a free n _ r refl p e d (nth ns p .parent) in
+    returned-behind a free n _ r refl p e d (c .before .before .set-free3 .ensures h (set ns n (freeVal (nth ns p .parent))) (k .0) (k .1) (k .2) s)
 
 pub return-node-spec : {M : Type 1} → statement M
 return-node-spec =
     tie.close
     (tie.spec
-    slice-read-next
     slice-read-left
     add-left
-    node-base-requires
-    add-a
-    mul-a
+    free-before-requires
+    slice-read-first
+    set-free-requires
     slice-write-a
-    add-a-2
-    mul-a-2
     slice-write-a-2
-    add-a-3
-    mul-a-3
-    slice-write-a-3
-    slice-write-a-4
-    slice-write-a-5
     same-length
-    returns)
+    returns
+    parent-requires
+    set-free-requires-2
+    set-free-requires-3
+    slice-write-a-3
+    same-length-2
+    returns-2)

@@ -4,7 +4,7 @@ use Prim.Native.Nat.{_-_}
 use mathlib.Core.Path.{refl}
 use native.Mathlib.Omega.{arith}
 use lib.ListN.{length-set}
-use Rattle.store.proofs.Chain.{take-here, taken}
+use Rattle.store.proofs.Chain.{take-here, taken-first}
 use borrow.Author.Needs.{needs}
 use Rattle.store.proofs.take_node.Statement.{statement}
 use Rattle.store.proofs.take_node.Tie as tie
@@ -72,7 +72,7 @@ same-length : tie.Need-same-length
 same-length c = search needs
 
 returns : tie.Need-returns
-returns c = λ h ns r a. taken a _ (c .node-base .result) (c .before .before .parent .result) _ (c .before .before .before .before .before .before .args .state) r refl (c .node-base .ensures) (c .before .before .parent .ensures) refl
+returns c = λ h ns free r a. taken-first a free _ (c .node-base .result) (c .before .before .parent .result) _ (c .before .before .before .before .before .before .args .state) r refl (c .node-base .ensures) (c .before .before .parent .ensures) refl
 
 pub take-node-spec : {M : Type 1} → statement M
 take-node-spec =
