@@ -25,17 +25,18 @@ extern "C" {
 #endif
 
 /* The numbers that calls return, and that a batch writes for each order. From 3 on they are refusals: no lent word has
- * changed, but for the second words, which are then 0. Where several would fit, the first of 7, 4, 8, 5, 6, 3 is given. */
+ * changed, but for the second words, which are then 0. Where several would fit, the first of 7, 4, 8, 5, 6, 3 or 11 is given. */
 enum cuffgarnet_answer {
-    CUFFGARNET_DONE = 0,      /* put a new key; formatted; checked; listed; restored; batch run */
+    CUFFGARNET_DONE = 0,      /* put a new key; reserved; formatted; checked; listed; restored; batch run */
     CUFFGARNET_VALUE = 1,     /* get: found; put: replaced; delete: removed; the second word is the (former) value */
     CUFFGARNET_ABSENT = 2,    /* get or delete: no such key */
     CUFFGARNET_NO_ROOM = 3,   /* put of an absent key lacks nodes */
     CUFFGARNET_BAD_ARENA = 4, /* the words are not a well-formed arena (docs/RULES.md) */
     CUFFGARNET_BAD_RANGE = 5, /* start above end; or equal and both excluded; or a kind of bound that is none */
-    CUFFGARNET_BAD_ORDER = 6, /* an order's code is not 1, 2 or 3 */
+    CUFFGARNET_BAD_ORDER = 6, /* an order's code is not 1, 2, 3 or 4 */
     CUFFGARNET_BAD_SIZE = 7,  /* a length that cannot be: see format, batch and restore */
-    CUFFGARNET_BAD_IMAGE = 8  /* the image is not a well-formed arena */
+    CUFFGARNET_BAD_IMAGE = 8, /* the image is not a well-formed arena */
+    CUFFGARNET_SPENT = 11     /* reserve of a key that is not above the mark */
 };
 
 /* The kinds of bound. */
@@ -49,7 +50,8 @@ enum cuffgarnet_bound {
 enum cuffgarnet_code {
     CUFFGARNET_PUT = 1,
     CUFFGARNET_GET = 2,
-    CUFFGARNET_DELETE = 3
+    CUFFGARNET_DELETE = 3,
+    CUFFGARNET_RESERVE = 4
 };
 
 /* The sizes of an arena: 10 words and 38 a node, 1 to 65,535 nodes. */
@@ -59,8 +61,8 @@ enum cuffgarnet_code {
 /* Words of the header that a program may read once a check has passed. */
 #define CUFFGARNET_WORD_PAIRS 5 /* how many pairs there are */
 #define CUFFGARNET_WORD_FREE 7  /* how many nodes are free */
-#define CUFFGARNET_WORD_SEEN 8  /* 1 if a key was ever put, else 0 */
-#define CUFFGARNET_WORD_MARK 9  /* the largest key ever put or restored; no call but format lowers it */
+#define CUFFGARNET_WORD_SEEN 8  /* 1 if a key was ever put or reserved, else 0 */
+#define CUFFGARNET_WORD_MARK 9  /* the largest key ever put, reserved or restored; no call but format lowers it */
 
 /* Formats n words as an empty arena, and forgets the mark. 0; 7 if n is not 10 + 38 N for an N of 1 to 65,535. */
 uint64_t cuffgarnet_format(uint64_t *arena, uint64_t n);
@@ -78,8 +80,12 @@ uint64_t cuffgarnet_put(uint64_t *arena, uint64_t n, uint64_t key, uint64_t valu
 /* Takes a pair out; the mark stays. 1 and the value; 2 and 0 if absent; 4 and 0. */
 uint64_t cuffgarnet_delete(uint64_t *arena, uint64_t n, uint64_t key, uint64_t *second);
 
-/* Runs one order by its code, as the call of that code would; 6 and 0 for a code that is none, behind 4. Get and delete ignore the
- * value. */
+/* Spends a counter when it is handed out, before its message is put: a key above the mark (any key, if nothing was seen) becomes
+ * the mark. 0; 4; 11 if the mark has reached the key. No pair is stored, and no free node is needed. */
+uint64_t cuffgarnet_reserve(uint64_t *arena, uint64_t n, uint64_t key);
+
+/* Runs one order by its code, as the call of that code would; 6 and 0 for a code that is none, behind 4. Get, delete
+ * and reserve ignore the value. */
 uint64_t cuffgarnet_order(uint64_t *arena, uint64_t n, uint64_t code, uint64_t key, uint64_t value, uint64_t *second);
 
 /* Writes the first out_n / 2 pairs of a range to out, key then value, in rising order; further words of out stay. 0 with

@@ -78,6 +78,12 @@ def nonces():
     a = bring_back(a, later)
 
 
+def reserves():
+    a = Tree(1)
+    run(a, [4, 0, 7, 4, 0, 7, 1, 5, 50, 4, 9, 7], [9] * 8)
+    run(a, [4, 9, 7, 1, 7, 70, 4, 10, 7, 5, 11, 7], [9] * 8)
+
+
 def no_room():
     a = Tree(1)
     puts(a, [(10 * i, i) for i in range(1, 13)])
@@ -94,5 +100,5 @@ def split():
     run(a, [3, 12, 0, 3, 7, 0, 2, 20, 0], [9] * 6)
 
 
-for part in no_arena, no_image, nonces, no_room, split:
+for part in no_arena, no_image, nonces, reserves, no_room, split:
     part()

@@ -103,8 +103,16 @@ class Tree:
         return (1, val)
 
     # One order by its code.
+    # A key above the mark becomes the mark.
+    def reserve(self, key):
+        if self.seen and key <= self.mark:
+            return 11, 0
+        self.seen, self.mark = 1, key
+        return 0, 0
+
     def order(self, code, key, val):
-        return self.put(key, val) if code == 1 else self.get(key) if code == 2 else self.delete(key) if code == 3 else (6, 0)
+        calls = {1: lambda: self.put(key, val), 2: lambda: self.get(key), 3: lambda: self.delete(key), 4: lambda: self.reserve(key)}
+        return calls.get(code, lambda: (6, 0))()
 
     # The pair out of its leaf, and the repair upwards.
     def take(self, way):

@@ -113,14 +113,13 @@ static void work(void) {
 
 /* Raises the mark of an arena that was checked to the saved counter, if it is lower. */
 static void raise_mark(uint64_t *arena) {
-    uint64_t saved, second;
+    uint64_t saved;
     if (read_words(SAVED, &saved, 1) != 1) return;
     if (arena[CUFFGARNET_WORD_SEEN] == 1 && arena[CUFFGARNET_WORD_MARK] >= saved) return;
-    must(cuffgarnet_put(arena, WORDS, saved, 0, &second) == CUFFGARNET_DONE, "put"); /* raises the mark */
-    must(cuffgarnet_delete(arena, WORDS, saved, &second) == CUFFGARNET_VALUE, "delete"); /* does not lower it */
+    must(cuffgarnet_reserve(arena, WORDS, saved) == CUFFGARNET_DONE, "reserve"); /* raises the mark */
 }
 
-/* Recovery: a new arena is formatted, the saved mark put, the image restored; whole and durable, it takes the old one's place. */
+/* Recovery: a new arena is formatted, the saved mark reserved, the image restored; whole and durable, it takes the old one's place. */
 static void recover(void) {
     static uint64_t arena[WORDS], image[WORDS];
     must(cuffgarnet_format(arena, WORDS) == CUFFGARNET_DONE, "format");
@@ -197,7 +196,7 @@ int main(int argc, char **argv) {
     }
     printf("killed %d times or more in the middle of a batch: each time the next counter was above every one used\n", KILLS);
     must(torn > 0, "no kill left a torn arena");
-    printf("a torn arena was refused; recovered: format, put the saved mark, restore the image\n");
+    printf("a torn arena was refused; recovered: format, reserve the saved mark, restore the image\n");
     fprintf(stderr, "%lu kills, %lu of them left a torn arena; %lu messages\n", kills, torn, sent);
 
     must(unlink(ARENA) == 0, "unlink");

@@ -32,8 +32,9 @@ use slab::Slab;
 
 const USAGE: &str = "usage:
   oracle ask N                  a history on a formatted arena of N nodes, a line each on standard input:
-                                  put K V | get K | delete K | list START END | fork START END | words
-  oracle put K V | delete K     on the arena whose words stand on standard input: the answer to standard error, the words after it to
+                                  put K V | get K | delete K | reserve K | list START END | fork START END | words
+  oracle put K V | delete K | reserve K
+                                on the arena whose words stand on standard input: the answer to standard error, the words after it to
                                 standard output
   oracle fix-right | fix-left   the same, border repair: the words after it
   oracle get K | list START END | fork START END
@@ -119,6 +120,7 @@ fn answer(rust: &mut Rust<'_>, verb: &str, rest: &mut &[String]) -> bool {
         "put" => order(rust, [1, number(rest), number(rest)]),
         "get" => order(rust, [2, number(rest), 0]),
         "delete" => order(rust, [3, number(rest), 0]),
+        "reserve" => order(rust, [4, number(rest), 0]),
         "list" => println!("{}", list(rust, bound(rest), bound(rest))),
         "fork" => println!("{}", fork(&rust.map, bound(rest), bound(rest))),
         "words" => print_words(&rust.words()),
@@ -140,8 +142,12 @@ fn on_words(verb: &str, rest: &mut &[String]) {
     match verb {
         "fix-right" => rust.map.fix_right_border(),
         "fix-left" => rust.map.fix_left_border(),
-        "put" | "delete" => {
-            let code = if verb == "put" { 1 } else { 3 };
+        "put" | "delete" | "reserve" => {
+            let code = match verb {
+                "put" => 1,
+                "delete" => 3,
+                _ => 4,
+            };
             let (key, value) = (number(rest), if code == 1 { number(rest) } else { 0 });
             let (number, second) = rust.order([code, key, value]);
             eprintln!("{number} {second}");
@@ -177,7 +183,7 @@ fn main() {
             let words: Vec<u64> = bytes.chunks_exact(8).map(|b| b.iter().rev().fold(0, |x, b| x << 8 | u64::from(*b))).collect();
             print!("{}", replay::answers(words.as_chunks::<3>().0));
         }
-        "put" | "delete" | "fix-right" | "fix-left" | "get" | "list" | "fork" => on_words(verb, rest),
+        "put" | "delete" | "reserve" | "fix-right" | "fix-left" | "get" | "list" | "fork" => on_words(verb, rest),
         _ => fail(USAGE),
     }
     let _ = std::io::stdout().flush();

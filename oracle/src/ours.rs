@@ -4,14 +4,22 @@ use crate::ffi;
 /// `raw_batch`: of any words, whole orders or not.
 pub use crate::ffi::{batch as raw_batch, check, format, restore};
 
-/// The single call of an order; there is none for an unknown code.
-pub fn order(a: &mut [u64], [code, key, value]: [u64; 3]) -> (u64, u64) {
+/// The call of an order's own; there is none for an unknown code.
+pub fn single(a: &mut [u64], [code, key, value]: [u64; 3]) -> (u64, u64) {
     let said = match code {
         1 => ffi::put(a, key, value),
         2 => ffi::get(a, key),
         3 => ffi::delete(a, key),
+        // it has no second word
+        4 => return (ffi::reserve(a, key), 0),
         _ => return batch(a, &[[code, key, value]]).1[0],
     };
+    (said.number, said.second)
+}
+
+/// The call that takes an order by its code.
+pub fn order(a: &mut [u64], [code, key, value]: [u64; 3]) -> (u64, u64) {
+    let said = ffi::order(a, code, key, value);
     (said.number, said.second)
 }
 

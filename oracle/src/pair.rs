@@ -22,10 +22,12 @@ pub enum Fault {
     Halves,
     /// A listing leaves out that more remain.
     More,
+    /// A spent key is handed out again: 11 is passed on as 0.
+    Twice,
 }
 
 impl Fault {
-    pub const NAMES: [&str; 5] = ["value", "kept", "chain", "halves", "more"];
+    pub const NAMES: [&str; 6] = ["value", "kept", "chain", "halves", "more", "twice"];
 
     pub fn named(name: &str) -> Option<Fault> {
         Some(match name {
@@ -34,6 +36,7 @@ impl Fault {
             "chain" => Fault::Chain,
             "halves" => Fault::Halves,
             "more" => Fault::More,
+            "twice" => Fault::Twice,
             _ => return None,
         })
     }
@@ -46,7 +49,7 @@ const RARE: u64 = 1000;
 pub struct Totals {
     pub orders: u64,
     pub batches: u64,
-    /// Orders by code (1, 2, 3, other) and number.
+    /// Orders by code (1 to 4, other) and number.
     pub answers: BTreeMap<(u64, u64), u64>,
     pub listings: u64,
     pub refused: u64,
@@ -64,6 +67,8 @@ pub struct Totals {
     /// Calls on words of wrong length or that may be no arena, and how many such words were none.
     pub refusals: u64,
     pub refused_arenas: u64,
+    /// Reserves around the mark, by each way to ask, held against the rule alone.
+    pub reserves: u64,
     /// Border repairs, forks and steps along pairs, where they can be called.
     pub borders: u64,
     pub forks: u64,
@@ -80,15 +85,25 @@ impl fmt::Display for Totals {
             self.orders, self.batches, self.histories, self.built
         )?;
         for ((code, number), count) in &self.answers {
-            let code = ["other code", "put", "get", "delete"][*code as usize];
-            let number = ["new", "value", "absent", "no room", "?", "?", "bad order"][*number as usize];
-            writeln!(f, "  {code}, {number}: {count}")?;
+            let name = ["other code", "put", "get", "delete", "reserve"][*code as usize];
+            let number = match (code, number) {
+                (4, 0) => "handed out",
+                (_, 0) => "new",
+                (_, 1) => "value",
+                (_, 2) => "absent",
+                (_, 3) => "no room",
+                (_, 6) => "bad order",
+                (_, 11) => "spent",
+                _ => "?",
+            };
+            writeln!(f, "  {name}, {number}: {count}")?;
         }
         writeln!(f, "nodes taken {}, returned {} by the Rust", self.taken, self.returned)?;
         writeln!(f, "listings {}, refused as bad ranges {}, pairs listed {}", self.listings, self.refused, self.listed)?;
         writeln!(f, "bad ranges on a map with no root, where the Rust does not panic (listed): {}", self.rootless)?;
         writeln!(f, "restores {}", self.restores)?;
         writeln!(f, "lengths and damaged arenas asked {}, of them no arenas {}", self.refusals, self.refused_arenas)?;
+        writeln!(f, "reserves around the mark, by the rule alone: {}", self.reserves)?;
         if cfg!(inner) {
             writeln!(f, "border repairs {}, forks {}, steps along pairs {}", self.borders, self.forks, self.steps)?;
         }
@@ -188,18 +203,26 @@ impl<'s> Pair<'s> {
         if ours.0 == 1 && self.due(totals, Fault::Value) {
             ours.1 = ours.1.wrapping_add(1);
         }
+        if ours.0 == 11 && self.due(totals, Fault::Twice) {
+            ours.0 = 0;
+        }
         if ours != rust {
             return Err(format!("order {order:?}: ours {ours:?}, the Rust {rust:?}"));
         }
         totals.orders += 1;
-        *totals.answers.entry((if order[0] > 3 { 0 } else { order[0] }, ours.0)).or_default() += 1;
+        *totals.answers.entry((if order[0] > 4 { 0 } else { order[0] }, ours.0)).or_default() += 1;
         Ok(())
     }
 
-    /// One order by its single call.
+    /// One order by the call of its own; and on a copy of the words by the call that takes any code, which must answer and write the same.
     pub fn single(&mut self, totals: &mut Totals, order: [u64; 3]) -> Result<(), String> {
         let passed = self.pass(totals, order);
-        let ours = ours::order(&mut self.ours, passed);
+        let mut copy = self.ours.clone();
+        let ours = ours::single(&mut self.ours, passed);
+        let also = ours::order(&mut copy, passed);
+        if also != ours || copy != self.ours {
+            return Err(format!("order {order:?}: by its own call {ours:?}, by its code {also:?}; the same words: {}", copy == self.ours));
+        }
         self.fault_words(totals);
         let rust = self.rust.order(order);
         self.answer(totals, order, ours, rust)

@@ -1,6 +1,6 @@
-//! What the Rust has no counterpart of: document 01's refusals, held against that document read anew in words.rs. Words are damaged one at
-//! a time, free chains laid in every order, and every call must say so exactly where they are then no arena; no refused call may change a
-//! lent word.
+//! What the Rust has no counterpart of: document 01's refusals, held against that document read anew in words.rs, and reserves. Words are
+//! damaged one at a time, free chains laid in every order, and every call must say so exactly where they are then no arena; no refused call
+//! may change a lent word.
 
 use crate::ours;
 use crate::pair::Totals;
@@ -25,7 +25,8 @@ pub fn all(totals: &mut Totals) -> Result<(), String> {
         }
     }
     short(totals)?;
-    chains(totals)
+    chains(totals)?;
+    reserves(totals)
 }
 
 /// Formatting at every small length; a batch and an image of every wrong one.
@@ -179,6 +180,52 @@ fn chains(totals: &mut Totals) -> Result<(), String> {
     Ok(())
 }
 
+/// Reserves by request (vii)'s rule alone, at keys around the mark, by each of the three ways to ask: 0, and the mark is the key, if nothing was
+/// seen or the key is above the mark; else 11. No other word changes. Then a second time, which is 11 always.
+fn reserves(totals: &mut Totals) -> Result<(), String> {
+    let ways: [fn(&mut [u64], [u64; 3]) -> (u64, u64); 3] = [ours::single, ours::order, |a, order| match ours::batch(a, &[order]) {
+        (0, answers) => answers[0],
+        (number, _) => (number, 7),
+    }];
+    let mut random = Random::new(10);
+    let leaves = Plan::Inner(vec![Plan::Leaf(5), Plan::Leaf(6)]);
+    let mut wholes = vec![words::formatted(1), words::formatted(3)];
+    for plan in [Plan::Leaf(0), Plan::Leaf(11), leaves] {
+        wholes.extend([0, 2].map(|spare| plan.words(spare, &mut random)));
+    }
+    for whole in wholes {
+        let seen = whole[words::SEEN];
+        let last = whole[words::MARK];
+        let marks = if seen == 0 { vec![0] } else { vec![last, last + 1, last + 9, u64::MAX - 1, u64::MAX] };
+        for mark in marks {
+            let near = [mark.saturating_sub(1), mark, mark.saturating_add(1), mark.saturating_add(2)];
+            for key in [0, 1, 2, last, u64::MAX - 1, u64::MAX].into_iter().chain(near) {
+                for (i, way) in ways.iter().enumerate() {
+                    let mut w = whole.clone();
+                    w[words::MARK] = mark;
+                    let mut wanted = w.clone();
+                    let above = seen == 0 || key > mark;
+                    if above {
+                        (wanted[words::SEEN], wanted[words::MARK]) = (1, key);
+                    }
+                    let said = [way(&mut w, [4, key, 9]), way(&mut w, [4, key, 9])];
+                    totals.reserves += 2;
+                    if said != [(if above { 0 } else { 11 }, 0), (11, 0)] || w != wanted {
+                        return Err(format!("reserves of {key}, seen {seen}, mark {mark}, way {i}: {said:?}, {:?}", &w[..10]));
+                    }
+                    // a spent key, and one below the mark, may still be put where there is room, and the mark stays
+                    let mut after = w.clone();
+                    let put = ours::single(&mut after, [1, key, 5]).0;
+                    if ![0, 1, 3].contains(&put) || after[words::MARK] != w[words::MARK] || after[words::SEEN] != 1 {
+                        return Err(format!("put of the reserved {key}, mark {}: {put}, {:?}", w[words::MARK], &after[..10]));
+                    }
+                }
+            }
+        }
+    }
+    Ok(())
+}
+
 /// Every call on words that may be no arena; `image` is one of the same length.
 fn one(totals: &mut Totals, w: &[u64], image: &[u64]) -> Result<(), String> {
     let good = words::well_formed(w);
@@ -192,14 +239,19 @@ fn one(totals: &mut Totals, w: &[u64], image: &[u64]) -> Result<(), String> {
         return Ok(());
     }
     let mut a = w.to_vec();
-    for order in [[1, 2, 9], [1, 3, 9], [2, 2, 0], [3, 2, 0], [3, 3, 0]] {
-        let said = ours::order(&mut a, order);
-        if said != (4, 0) || a != w {
+    for order in [[1, 2, 9], [1, 3, 9], [2, 2, 0], [3, 2, 0], [3, 3, 0], [4, 0, 0], [4, u64::MAX, 0]] {
+        let said = [ours::single(&mut a, order), ours::order(&mut a, order)];
+        if said != [(4, 0); 2] || a != w {
             return Err(format!("{order:?} says {said:?}"));
         }
     }
-    let (number, answers) = ours::batch(&mut a, &[[1, 2, 9], [3, 2, 0]]);
-    if number != 4 || a != w || answers != [(7, 7); 2] {
+    // an unknown code comes after a bad arena
+    let said = ours::order(&mut a, [9, 0, 0]);
+    if said != (4, 0) || a != w {
+        return Err(format!("code 9 says {said:?}"));
+    }
+    let (number, answers) = ours::batch(&mut a, &[[1, 2, 9], [3, 2, 0], [4, u64::MAX, 0]]);
+    if number != 4 || a != w || answers != [(7, 7); 3] {
         return Err(format!("a batch says {number}"));
     }
     let mut out = [9; 8];

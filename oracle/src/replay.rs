@@ -115,13 +115,18 @@ fn lists(all: &mut Vec<[u64; 3]>) {
     let put = |k: u64| [1, k, k + 1000];
     let to_12: Vec<_> = (1..=12).map(put).collect();
     let tens: Vec<_> = (1..=11).map(|k| put(10 * k)).collect();
-    let runs: [Vec<[u64; 3]>; 7] = [
+    let runs: [Vec<[u64; 3]>; 8] = [
         [&to_12[..], &[[3, 12, 0]]].concat(),
         [&to_12[..], &[[3, 7, 0], [3, 6, 0]]].concat(),
         (2..=12).map(put).chain([put(1)]).collect(),
         [&tens[..], &[put(55)]].concat(),
         [&tens[..], &[put(65)]].concat(),
         (0..=12).rev().map(put).chain([[3, 12, 0]]).collect(),
+        // counters: a reserved key is spent, and may still be put
+        [[4, 0, 0], [4, 0, 0], [4, 7, 0], [1, 5, 50], [4, 6, 0], [1, 7, 70], [4, 7, 0], [4, 8, 9], [3, 7, 0], [4, 8, 0], [5, 9, 0]]
+            .into_iter()
+            .chain([[4, u64::MAX, 0], [4, u64::MAX, 0], [1, 9, 90]])
+            .collect(),
         vec![[1, u64::MAX, 1], [1, 0, 2], [2, u64::MAX, 0], [3, 0, 0], [1, u64::MAX, 3], [3, u64::MAX, 0], [2, 0, 0]],
     ];
     for run in runs {

@@ -1,5 +1,5 @@
-//! The Rust's side of a history: the map of the seven files, held against the toolchain's BTreeMap, with document 01's rule of room and its
-//! mark, which the Rust does not have.
+//! The Rust's side of a history: the map of the seven files, held against the toolchain's BTreeMap, with document 01's rule of room, its
+//! mark, and the reserve of request (vii), which the Rust does not have.
 
 use std::ops::Bound::{Excluded, Included, Unbounded};
 
@@ -64,6 +64,12 @@ impl<'s> Rust<'s> {
                 assert_eq!(got, self.nightly.delete(key), "delete {key}");
                 got.map_or((2, 0), |v| (1, v))
             }
+            // spends a key above the mark; no pair is looked at
+            4 if self.seen == 0 || key > self.mark => {
+                (self.seen, self.mark) = (1, key);
+                (0, 0)
+            }
+            4 => (11, 0),
             _ => (6, 0),
         }
     }

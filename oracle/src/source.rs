@@ -98,7 +98,10 @@ impl Source {
             (false, _) => (25, 85),
         };
         if self.kind == Kind::Wild && self.random.below(50) == 0 {
-            return [[0, 4, 5, u64::MAX, 1 << 32][self.random.below(5) as usize], self.key(), value];
+            return [[0, 5, 6, u64::MAX, 1 << 32][self.random.below(5) as usize], self.key(), value];
+        }
+        if self.random.below(20) == 0 {
+            return [4, self.counter(rust), value];
         }
         if roll < puts {
             let key = match self.kind {
@@ -127,6 +130,16 @@ impl Source {
             _ => self.key(),
         };
         [if roll < deletes { 3 } else { 2 }, key, value]
+    }
+
+    /// A key to be reserved: at the mark or beside it, or any.
+    fn counter(&mut self, rust: &Rust<'_>) -> u64 {
+        match self.random.below(8) {
+            0 => rust.mark,
+            1 => rust.mark.saturating_sub(1),
+            2..=4 => rust.mark.saturating_add(1 + self.random.below(2)),
+            _ => self.key(),
+        }
     }
 
     /// The bounds of a range, at or beside present keys; one in a few is bad.

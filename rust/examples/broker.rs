@@ -146,14 +146,13 @@ fn work(files: &Files) -> Result<(), Box<dyn Any>> {
 fn raise<W: Words>(index: &mut Index<W>, files: &Files) -> Result<(), Box<dyn Any>> {
     if let Some(saved) = read(&files.saved)?.first() {
         if index.mark()? < Some(*saved) {
-            index.insert(*saved, 0)?; // raises the mark
-            index.remove(*saved)?; // does not lower it
+            index.reserve(*saved)?; // raises the mark
         }
     }
     Ok(())
 }
 
-/// Recovery: a new arena is formatted, the saved mark put, the image restored; whole and durable, it takes the old one's place.
+/// Recovery: a new arena is formatted, the saved mark reserved, the image restored; whole and durable, it takes the old one's place.
 fn recover(files: &Files) -> Result<(), Box<dyn Any>> {
     let mut index = Index::with_nodes(NODES)?;
     raise(&mut index, files)?;
@@ -243,7 +242,7 @@ fn story(folder: &Path) -> Result<(), Box<dyn Any>> {
     if torn == 0 {
         return Err("no kill left a torn arena".into());
     }
-    println!("a torn arena was refused; recovered: format, put the saved mark, restore the image");
+    println!("a torn arena was refused; recovered: format, reserve the saved mark, restore the image");
     eprintln!("{kills} kills, {torn} of them left a torn arena; {sent} messages");
 
     fs::remove_file(&files.arena)?;

@@ -4,7 +4,7 @@ use crate::ffi::Said;
 use std::fmt;
 
 /// Why a call was refused. A refused call has changed no word. Where several would fit, the first of BadSize, BadArena,
-/// BadImage, BadRange, BadOrder, NoRoom is given.
+/// BadImage, BadRange, BadOrder, NoRoom or Spent is given.
 #[derive(Clone, Copy, Debug, Eq, Hash, PartialEq)]
 #[non_exhaustive]
 pub enum Error {
@@ -14,12 +14,14 @@ pub enum Error {
     BadArena,
     /// 5: a range whose start is above its end, or equal to it with both excluded.
     BadRange,
-    /// 6: an order's code is not 1, 2 or 3.
+    /// 6: an order's code is not 1, 2, 3 or 4.
     BadOrder,
     /// 7: a number of words that cannot be.
     BadSize,
     /// 8: the image is not a well-formed arena.
     BadImage,
+    /// 11: the key that was to be reserved is not above the mark.
+    Spent,
     /// A number that this version does not know; the library that it is built with gives none.
     Other(u64),
 }
@@ -38,6 +40,7 @@ impl Error {
             Error::BadOrder => 6,
             Error::BadSize => 7,
             Error::BadImage => 8,
+            Error::Spent => 11,
             Error::Other(number) => number,
         }
     }
@@ -50,6 +53,7 @@ impl Error {
             6 => Error::BadOrder,
             7 => Error::BadSize,
             8 => Error::BadImage,
+            11 => Error::Spent,
             _ => Error::Other(number),
         }
     }
@@ -61,9 +65,10 @@ impl fmt::Display for Error {
             Error::NoRoom => f.write_str("no room: the insertion lacks free nodes"),
             Error::BadArena => f.write_str("the words are not a well-formed arena"),
             Error::BadRange => f.write_str("the range's start is above its end, or equal to it with both excluded"),
-            Error::BadOrder => f.write_str("the order's code is not 1, 2 or 3"),
+            Error::BadOrder => f.write_str("the order's code is not 1, 2, 3 or 4"),
             Error::BadSize => f.write_str("a number of words that cannot be"),
             Error::BadImage => f.write_str("the image is not a well-formed arena"),
+            Error::Spent => f.write_str("the counter is spent: reserve one above the mark"),
             Error::Other(number) => write!(f, "refused with the unknown number {number}"),
         }
     }

@@ -7,6 +7,7 @@ unsafe extern "C" {
     fn cuffgarnet_get(arena: *const u64, n: u64, key: u64, second: *mut u64) -> u64;
     fn cuffgarnet_put(arena: *mut u64, n: u64, key: u64, value: u64, second: *mut u64) -> u64;
     fn cuffgarnet_delete(arena: *mut u64, n: u64, key: u64, second: *mut u64) -> u64;
+    fn cuffgarnet_reserve(arena: *mut u64, n: u64, key: u64) -> u64;
     fn cuffgarnet_order(arena: *mut u64, n: u64, code: u64, key: u64, value: u64, second: *mut u64) -> u64;
     fn cuffgarnet_list(
         arena: *const u64,
@@ -75,6 +76,10 @@ pub fn delete(arena: &mut [u64], key: u64) -> Said {
     let mut second = UNWRITTEN;
     let number = unsafe { cuffgarnet_delete(arena.as_mut_ptr(), arena.len() as u64, key, &mut second) };
     Said { number, second }
+}
+
+pub fn reserve(arena: &mut [u64], key: u64) -> u64 {
+    unsafe { cuffgarnet_reserve(arena.as_mut_ptr(), arena.len() as u64, key) }
 }
 
 pub fn order(arena: &mut [u64], code: u64, key: u64, value: u64) -> Said {

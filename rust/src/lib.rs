@@ -240,6 +240,25 @@ impl<W: Words> Index<W> {
         error::value(ffi::delete(self.words.words_mut(), key))
     }
 
+    /// Spends a counter when it is handed out, before its message is put: the mark becomes the key, and no pair is stored. A writer
+    /// that dies before its put leaves a counter that nobody gets again.
+    ///
+    /// # Errors
+    /// [`Error::Spent`] if the mark has reached the key, [`Error::BadArena`]. No word has changed then.
+    ///
+    /// ```
+    /// use cuffgarnet::{Error, Index};
+    /// let mut index = Index::with_nodes(1)?;
+    /// index.reserve(9)?;
+    /// assert_eq!(index.reserve(9), Err(Error::Spent));
+    /// assert_eq!((index.get(9)?, index.mark()?), (None, Some(9)));
+    /// index.insert(9, 90)?; // the message of counter 9
+    /// # Ok::<(), Error>(())
+    /// ```
+    pub fn reserve(&mut self, key: u64) -> Result<(), Error> {
+        error::done(ffi::reserve(self.words.words_mut(), key))
+    }
+
     /// Writes the first pairs of a range into `out`, key then value, in rising order, as many as half its length; further
     /// words of it stay. Says how many pairs were written, and whether more of the range remain.
     ///
@@ -320,7 +339,7 @@ impl<W: Words> Index<W> {
         order::apply(self.words.words_mut(), orders)
     }
 
-    /// The same on plain words and with no allocation: an order is code (1 put, 2 get, 3 delete), key and value; its
+    /// The same on plain words and with no allocation: an order is code (1 put, 2 get, 3 delete, 4 reserve), key and value; its
     /// answer is a number and a second word.
     ///
     /// # Errors
@@ -345,7 +364,7 @@ impl<W: Words> Index<W> {
         self.words.words().to_vec()
     }
 
-    /// Brings the pairs of a snapshot back. The mark becomes the larger of the two: a key that was ever put here, or in the
+    /// Brings the pairs of a snapshot back. The mark becomes the larger of the two: a key that was ever put or reserved here, or in the
     /// snapshot, stays spent. The mark of an arena that is lost is in neither: it has to be put first. A restore that is killed
     /// may have lowered the mark, so restore into a copy and rename it (docs/OPERATING.md).
     ///
@@ -399,7 +418,7 @@ impl<W: Words> Index<W> {
         Ok(self.header(FREE)? as usize)
     }
 
-    /// The largest key that was ever put, present or not; `None` if none was. No call but formatting lowers it.
+    /// The largest key that was ever put or reserved, present or not; `None` if none was. No call but formatting lowers it.
     ///
     /// # Errors
     /// [`Error::BadArena`].

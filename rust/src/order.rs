@@ -12,6 +12,8 @@ pub enum Order {
     Get(u64),
     /// Take the pair of this key out.
     Remove(u64),
+    /// Spend this key, with no pair put.
+    Reserve(u64),
 }
 
 /// What an order came to: as the single call's result.
@@ -24,6 +26,7 @@ impl Order {
             Order::Insert(key, value) => [1, key, value],
             Order::Get(key) => [2, key, 0],
             Order::Remove(key) => [3, key, 0],
+            Order::Reserve(key) => [4, key, 0],
         }
     }
 }

@@ -60,9 +60,10 @@ fn batches_answer_as_single_calls() {
     let mut all = Index::with_nodes(12).unwrap();
     for _ in 0..200 {
         let orders: Vec<Order> = (0..rand.below(40))
-            .map(|_| match (rand.below(3), rand.below(120)) {
-                (0, key) => Order::Get(key),
-                (1, key) => Order::Remove(key),
+            .map(|_| match (rand.below(12), rand.below(120)) {
+                (0..=3, key) => Order::Get(key),
+                (4..=7, key) => Order::Remove(key),
+                (8, key) => Order::Reserve(key),
                 (_, key) => Order::Insert(key, key + 1),
             })
             .collect();
@@ -72,6 +73,7 @@ fn batches_answer_as_single_calls() {
                 Order::Insert(key, value) => one.insert(key, value),
                 Order::Get(key) => one.get(key),
                 Order::Remove(key) => one.remove(key),
+                Order::Reserve(key) => one.reserve(key).map(|()| None),
             })
             .collect();
         assert_eq!(all.apply(&orders), Ok(single));

@@ -106,12 +106,11 @@ fn a_lost_arena_forgets_the_mark() {
     assert_eq!((saved, next_counter(&index)), (5, 4)); // counters 4 and 5 would be used a second time
 }
 
-/// Recovery as docs/OPERATING.md has it: format, put the saved mark, restore the image.
+/// Recovery as docs/OPERATING.md has it: format, reserve the saved mark, restore the image.
 fn recovered(nodes: usize, saved: Option<u64>, image: Option<&[u64]>) -> Result<Index, Error> {
     let mut index = Index::with_nodes(nodes)?;
     if let Some(mark) = saved {
-        index.insert(mark, 0)?; // raises the mark
-        index.remove(mark)?; // does not lower it
+        index.reserve(mark)?; // raises the mark
     }
     if let Some(image) = image {
         index.restore(image)?; // the image's pairs, the larger of both marks
@@ -141,7 +140,7 @@ fn recovery() {
 
 // ---- growing, and the last counter
 
-/// Growing as docs/OPERATING.md has it: a larger arena, the mark put and taken out again, then all pairs.
+/// Growing as docs/OPERATING.md has it: a larger arena, the mark reserved, then all pairs.
 fn grown(old: &Index, nodes: usize) -> Result<Index, Error> {
     let mut new = recovered(nodes, old.mark()?, None)?;
     let pairs: Vec<(u64, u64)> = old.iter().collect::<Result<_, _>>()?;

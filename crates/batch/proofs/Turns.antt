@@ -14,7 +14,7 @@ use borrow.Author.Tests.{eq-eqb, ne-eqb}
 use Rattle.model.specs.declared.Answer.{Answer}
 use Rattle.model.specs.declared.Answer.the-variants.{Done, BadOrder}
 use Rattle.model.specs.Answer.{Numbers, numbersOf}
-use Rattle.model.specs.State.{State, Reply, Order, order, put, get, delete, triples, afterAll, answers}
+use Rattle.model.specs.State.{State, Reply, Order, order, put, get, delete, reserve, putCode, getCode, deleteCode, reserveCode, triples, afterAll, answers}
 use Rattle.model.specs.Words.{wordsOf}
 use Rattle.model.specs.Promise.{Holds, Fits, Does}
 use Rattle.model.proofs.Calls.{order-sound}
@@ -24,36 +24,23 @@ use Rattle.batch.specs.Orders.{orderOf, Ran}
 -- ---- an order by its code
 
 module _ (c k v : ℕ) (s : State) where
-  -- the order by three tests of its code
-  abbrev by : Bool → Bool → Bool → Reply
-  by x y z =
-      elim x [
-        | true ↦ put k v s
-        | false ↦
-            elim y [
-              | true ↦ get k s
-              | false ↦
-                  elim z [
-                    | true ↦ delete k s
-                    | false ↦ record { answer = BadOrder; state = s }
-                  ]
-            ]
-      ]
+  pub order-put : c ≡ putCode → order (orderOf c k v) s ≡ put k v s
+  order-put e = rw (eq-eqb c putCode e, order)
 
-  tests : {x y z : Bool} → eqb c 1 ≡ x → eqb c 2 ≡ y → eqb c 3 ≡ z → order (orderOf c k v) s ≡ by x y z
-  tests {x} {y} {z} e f g = ap (λ (t : Bool). by t (eqb c 2) (eqb c 3)) e ∙ (ap (λ (t : Bool). by x t (eqb c 3)) f ∙ ap (by x y) g)
+  module _ (n : c ≡ putCode → ⊥) where
+    pub order-get : c ≡ getCode → order (orderOf c k v) s ≡ get k s
+    order-get e = rw (ne-eqb c putCode n, eq-eqb c getCode e, order)
 
-  pub order-put : c ≡ 1 → order (orderOf c k v) s ≡ put k v s
-  order-put e = tests (eq-eqb c 1 e) refl refl
+    module _ (m : c ≡ getCode → ⊥) where
+      pub order-delete : c ≡ deleteCode → order (orderOf c k v) s ≡ delete k s
+      order-delete e = rw (ne-eqb c putCode n, ne-eqb c getCode m, eq-eqb c deleteCode e, order)
 
-  pub order-get : (c ≡ 1 → ⊥) → c ≡ 2 → order (orderOf c k v) s ≡ get k s
-  order-get n e = tests (ne-eqb c 1 n) (eq-eqb c 2 e) refl
+      module _ (l : c ≡ deleteCode → ⊥) where
+        pub order-reserve : c ≡ reserveCode → order (orderOf c k v) s ≡ reserve k s
+        order-reserve e = rw (ne-eqb c putCode n, ne-eqb c getCode m, ne-eqb c deleteCode l, eq-eqb c reserveCode e, order)
 
-  pub order-delete : (c ≡ 1 → ⊥) → (c ≡ 2 → ⊥) → c ≡ 3 → order (orderOf c k v) s ≡ delete k s
-  order-delete n m e = tests (ne-eqb c 1 n) (ne-eqb c 2 m) (eq-eqb c 3 e)
-
-  pub order-bad : (c ≡ 1 → ⊥) → (c ≡ 2 → ⊥) → (c ≡ 3 → ⊥) → order (orderOf c k v) s ≡ record { answer = BadOrder; state = s }
-  order-bad n m l = tests (ne-eqb c 1 n) (ne-eqb c 2 m) (ne-eqb c 3 l)
+        pub order-bad : (c ≡ reserveCode → ⊥) → order (orderOf c k v) s ≡ record { answer = BadOrder; state = s }
+        order-bad j = rw (ne-eqb c putCode n, ne-eqb c getCode m, ne-eqb c deleteCode l, ne-eqb c reserveCode j, order)
 
 -- ---- in turn
 

@@ -19,6 +19,8 @@ const GET: u64 = 2;
 
 const DELETE: u64 = 3;
 
+const RESERVE: u64 = 4;
+
 // One order, behind a checked arena.
 fn run(a: &mut [u64], code: u64, key: u64, val: u64) -> Answer
     requires { ⌜ WellFormed (now a) ⌝ }
@@ -32,6 +34,9 @@ fn run(a: &mut [u64], code: u64, key: u64, val: u64) -> Answer
     }
     if code == DELETE {
         return remove::delete(a, key);
+    }
+    if code == RESERVE {
+        return reserve::reserve(a, key);
     }
     Answer::BadOrder
 }

@@ -63,6 +63,14 @@ fn nonces() {
     bring_back(&mut a, &later);
 }
 
+// A reserve hands a counter out once; a put below the mark stays allowed; code 5 is none.
+fn reserves() {
+    let mut a = [7; 48];
+    format(&mut a);
+    four(&mut a, &[4, 0, 7, 4, 0, 7, 1, 5, 50, 4, 9, 7]);
+    four(&mut a, &[4, 9, 7, 1, 7, 70, 4, 10, 7, 5, 11, 7]);
+}
+
 // One leaf: the twelfth key finds no room, unknown codes are refused, and neither stops the rest.
 fn no_room() {
     let mut a = [7; 48];
@@ -91,6 +99,7 @@ fn main() {
     no_arena();
     no_image();
     nonces();
+    reserves();
     no_room();
     split();
 }

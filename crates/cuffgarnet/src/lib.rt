@@ -9,6 +9,7 @@ use listing::list;
 use map::delete;
 use map::get;
 use map::put;
+use map::reserve;
 use model::Answer;
 use model::Listed;
 use model::Range;
@@ -76,6 +77,15 @@ pub extern "C" fn cuffgarnet_delete(arena: &mut [u64], key: u64, second: &mut u6
     let gone = delete(arena, key);
     *second = gone.word();
     gone.number()
+}
+
+// Spends a key above the mark, with no pair put.
+#[no_mangle]
+pub extern "C" fn cuffgarnet_reserve(arena: &mut [u64], key: u64) -> u64
+    ensures { λ r. ⌜ Numbered (Promised (promise.reserve key) (now (arena .entry)) (now (arena .exit)) tt) r ⌝ }
+{
+    let handed = reserve(arena, key);
+    handed.number()
 }
 
 // Runs one order by its code.

@@ -17,7 +17,7 @@ use Rattle.model.specs.declared.Listed.{Listed}
 use Rattle.model.specs.Layout.{freeWord}
 use Rattle.model.specs.Search.{search}
 use Rattle.model.specs.Insert.{needed}
-use Rattle.model.specs.Mark.{higher, storedMark}
+use Rattle.model.specs.Mark.{higher, reached, storedMark}
 use Rattle.model.specs.Map.{look, range}
 use Rattle.model.specs.Answer.{numbersOf}
 use Rattle.model.specs.State as on
@@ -28,21 +28,22 @@ use Rattle.model.specs.Promise as model
 use Rattle.model.specs.Promise.{Holds, room, laid, Called, Formatted, Ran, Restored}
 use Rattle.model.proofs.Lists.{same-or}
 use Rattle.model.proofs.Maps.{bad-panics, panics-bad}
-use Rattle.model.proofs.Calls.{get-map, order-cases, NoneLeft, order-sound, batch-sound, formatted-sound, restored-sound}
+use Rattle.model.proofs.Calls.{get-map, Reached, Reserved, reserve-map, order-cases, NoneLeft, order-sound, batch-sound, formatted-sound, restored-sound}
 use Rattle.model.proofs.Backward.{one-state, backward}
 use Rattle.model.proofs.Unique.{one-format, one-listing, one-batch, one-restore}
-use Rattle.demands.specs.Plain.{Plain, only, ordered, orderedAll, putTo, getFrom, deleteFrom, roomBy, roomsBy}
+use Rattle.demands.specs.Plain.{Plain, only, ordered, orderedAll, putTo, getFrom, deleteFrom, reserveOn, roomBy, roomsBy}
 use Rattle.demands.specs.Stored.{stored, held}
 use Rattle.demands.specs.Call.{refusal, Call, ByMap, Refused, Did}
 use Rattle.demands.specs.Calls as call
 use Rattle.demands.specs.Calls.{Lacks, reads, InTurn}
-use Rattle.demands.proofs.Reading.{plainOf, stored-is, stored-mark, held-is, header-is}
+use Rattle.model.proofs.Header.{stored-mark, header-is}
+use Rattle.demands.proofs.Reading.{plainOf, stored-is, held-is}
 use Rattle.demands.proofs.Orders.{both-ways, with-room}
-use Rattle.demands.proofs.Steps.{Meets, NoneFor, get-meets, delete-meets, none-there, put-meets, order-meets, order-refuses, batch-size, batch-plain, batch-said}
-use Rattle.demands.proofs.Marks.{put-raises, order-raises, batch-raises, mark-raises}
+use Rattle.demands.proofs.Steps.{Meets, NoneFor, get-meets, delete-meets, reserve-meets, none-there, put-meets, order-meets, order-refuses, batch-size, batch-plain, batch-said}
+use Rattle.demands.proofs.Marks.{put-raises, reserve-raises, order-raises, batch-raises, mark-raises}
 use Rattle.demands.proofs.Lawful.{Lawful, kept-words, long-is, Left, left-of, called-did, ends-map, refused-alone, refused-beside, one-alone, state-lawful, reply-refused}
 
--- ---- check, get, delete
+-- ---- check, get, delete, reserve
 
 -- a state that is left leaves the words
 same-words : {w w′ : List ℕ} {s t : State} → Holds w s → w′ ≡ wordsOf t → t ≡ s → w′ ≡ w
@@ -61,6 +62,17 @@ module _ (k : ℕ) where
 
   pub delete-lawful : Lawful (call.delete k)
   delete-lawful = state-lawful (on.delete k) (λ w. []) (deleteFrom k) (λ w w′. Unit {0}) (λ w w′ r x. called-did _ _ (deleteFrom k) _ x (delete-meets k (x .state) (x .holds .sound)) tt) (λ w. refl) (λ p. refl)
+
+  pub reserve-lawful : Lawful (call.reserve k)
+  reserve-lawful = state-lawful (on.reserve k) (λ w. call.spent k w ∷ []) (reserveOn k) (λ w w′. Unit {0})
+      (λ w w′ r x.
+      let s = x .state in
+      let m : reached k (storedMark w) ≡ reached k (s .mark) = ap (reached k) (stored-mark (x .holds)) in
+      ⊎-elim
+      (λ (l : Reached k s (on.reserve k s)). inl (m ∙ l .not-above, reply-refused _ _ _ _ x (l .refused)))
+      (λ (d : Reserved k s (on.reserve k s)). inr ((λ e. both-ways e (m ∙ d .above)), called-did _ _ (reserveOn k) _ x (reserve-meets k s (x .holds .sound)) tt))
+      (reserve-map k s (x .holds .sound)))
+      (λ w. refl) (λ p. reserve-raises k p)
 
 -- ---- orders, and the put, which may lack nodes
 
@@ -104,7 +116,7 @@ module _ (k v : ℕ) where
 module _ (o : Order) where
   -- an order that only reads leaves the state
   reads-still : (s : State) → Sound s → reads o → (on.order o s) .state ≡ s
-  reads-still s u n = order-cases o s (λ d. d .state ≡ s) (λ e. absurd (n .0 e)) (λ e. ap (λ (d : Reply). d .state) (get-map (o .key) s u)) (λ e. absurd (n .1 e)) (λ a b c. refl)
+  reads-still s u n = order-cases o s (λ d. d .state ≡ s) (λ e. absurd (n .0 e)) (λ e. ap (λ (d : Reply). d .state) (get-map (o .key) s u)) (λ e. absurd (n .1 e)) (λ e. absurd (n .2 e)) (λ a b c d. refl)
 
   pub order-lawful : Lawful (call.order o)
   order-lawful = state-lawful (on.order o) (λ w. call.noRoomFor o w ∷ []) (ordered true o) (λ w w′. reads o → w′ ≡ w)

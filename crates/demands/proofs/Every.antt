@@ -23,10 +23,11 @@ use Rattle.model.proofs.Forward.{forward}
 use Rattle.demands.specs.Plain.{Plain, empty, bringing, Made, Spent, Raises, Spending}
 use Rattle.demands.specs.Stored.{held}
 use Rattle.demands.specs.Call.{Speech, Call, given, made, Unchanged, Refused, Did, ByMap}
-use Rattle.demands.specs.Public.{Public, format, check, get, put, delete, order, list, batch, restore}
+use Rattle.demands.specs.Public.{Public, format, check, get, put, delete, reserve, order, list, batch, restore}
 use Rattle.demands.specs.History.{Turn, Run, Standing, after, afterAll, Kept, NotLower}
 use Rattle.demands.specs.Demands.{AsTheMap, AnyHistory, OneEnd}
-use Rattle.demands.proofs.Reading.{stored-is, header-is, seen-is, mark-is, mark-by, stored-mark}
+use Rattle.model.proofs.Header.{header-is, seen-is, mark-is, mark-by, stored-mark}
+use Rattle.demands.proofs.Reading.{stored-is}
 use Rattle.demands.proofs.Orders.{both-ways}
 use Rattle.demands.proofs.Marks.{spending-none, spending-more, mark-raises, NotBelow, not-below}
 use Rattle.demands.proofs.Lawful.{allRefused, Lawful}
@@ -40,6 +41,7 @@ lawful _ check = calls.check-lawful
 lawful _ (get k) = calls.get-lawful k
 lawful _ (put k v) = calls.put-lawful k v
 lawful _ (delete k) = calls.delete-lawful k
+lawful _ (reserve k) = calls.reserve-lawful k
 lawful _ (order o) = calls.order-lawful o
 lawful _ (list q o) = calls.list-lawful q o
 lawful _ (batch b a) = calls.batch-lawful b a

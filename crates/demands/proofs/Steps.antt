@@ -9,21 +9,22 @@ use mathlib.Core.Option.{Option, some, none}
 use lib.Dec.{leb}
 use lib.ListN.{length}
 use Rattle.model.specs.declared.Answer.{Answer}
-use Rattle.model.specs.declared.Answer.the-variants.{NoRoom}
+use Rattle.model.specs.declared.Answer.the-variants.{Done, NoRoom, Spent as spentAnswer}
 use Rattle.model.specs.Tree.{Ctx}
 use Rattle.model.specs.Search.{Spot, at, gap, search}
 use Rattle.model.specs.Insert.{needed}
 use Rattle.model.specs.Map.{look, got, replaced}
+use Rattle.model.specs.Mark.{seen, reached}
 use Rattle.model.specs.Answer.{numbersOf}
-use Rattle.model.specs.State.{State, Reply, Order, list, get, putAt, put, deleteAt, delete, putCode, getCode, deleteCode, order, afterAll, answers}
+use Rattle.model.specs.State.{State, Reply, Order, list, get, putAt, put, deleteAt, delete, reserve, putCode, getCode, deleteCode, reserveCode, order, afterAll, answers}
 use Rattle.model.specs.Sound.{Sound}
 use Rattle.model.proofs.Descent.{Sought, search-right}
-use Rattle.model.proofs.Calls.{look-gap, get-map, NoneLeft, Put, put-map, delete-map, order-cases, order-sound}
-use Rattle.demands.specs.Plain.{Plain, Made, only, isNone, putTo, getFrom, deleteFrom, ordered, orderedAll, roomBy, roomsBy}
+use Rattle.model.proofs.Calls.{look-gap, get-map, NoneLeft, Put, put-map, delete-map, Reached, Reserved, reserve-map, order-cases, order-sound}
+use Rattle.demands.specs.Plain.{Plain, reserved, Made, only, isNone, putTo, getFrom, deleteFrom, reserveOn, ordered, orderedAll, roomBy, roomsBy}
 use Rattle.demands.specs.Call.{refusal}
 use Rattle.demands.specs.Calls.{OrderRefusal}
 use Rattle.demands.proofs.Reading.{plainOf}
-use Rattle.demands.proofs.Orders.{both-ways, ordered-put, ordered-get, ordered-delete, ordered-other, ordered-cases, with-room, put-none}
+use Rattle.demands.proofs.Orders.{both-ways, ordered-put, ordered-get, ordered-delete, ordered-reserve, ordered-other, ordered-cases, with-room, put-none}
 
 -- a reply on the state s is what is made of the plain list; refused, it left the state
 pub record Meets (s : State) (d : Reply) (m : Made Answer) : Type 0 where
@@ -76,6 +77,14 @@ module _ (k : ℕ) (s : State) (o : Sound s) where
         still = λ e. both-ways e (ap refusal (d .answered) ∙ got-done (look k (list s)));
       }
 
+  pub reserve-meets : Meets s (reserve k s) (reserveOn k (plainOf s))
+  reserve-meets = ⊎-elim
+      (λ (n : Reached k s (reserve k s)). rw (n .refused, n .not-above) (record { answered = refl; plain-is = refl; sound = o; size-is = refl; still = λ e. refl }))
+      (λ (d : Reserved k s (reserve k s)).
+      let e = d .done in
+      rw (d .above) (record { answered = ap (λ (x : Reply). x .answer) e; plain-is = ap (λ (x : Reply). plainOf (x .state)) e; sound = d .sound; size-is = ap (λ (x : Reply). x .state .size) e; still = λ y. both-ways y (ap (λ (x : Reply). refusal (x .answer)) e) }))
+      (reserve-map k s o)
+
   -- an absent key
   pub none-there : {d : Reply} → NoneLeft k s d → look k (list s) ≡ none
   none-there l = look-gap s (l .edge) k (subst (Sought k (s .whole)) (l .found) (search-right k (s .whole) (o .rising)))
@@ -108,7 +117,8 @@ module _ (r : Order) (s : State) (o : Sound s) where
       (put-meets (r .key) s o (r .val)))
       (λ e. inr (rw (ordered-get true r (plainOf s) e) (get-meets (r .key) s o)))
       (λ e. inr (rw (ordered-delete true r (plainOf s) e) (delete-meets (r .key) s o)))
-      (λ a b c. inr (rw (ordered-other true r (plainOf s) a b c) (record { answered = refl; plain-is = refl; sound = o; size-is = refl; still = λ e. refl })))
+      (λ e. inr (rw (ordered-reserve true r (plainOf s) e) (reserve-meets (r .key) s o)))
+      (λ a b c d. inr (rw (ordered-other true r (plainOf s) a b c d) (record { answered = refl; plain-is = refl; sound = o; size-is = refl; still = λ e. refl })))
 
 -- what an order answers tells whether it found room: so much, and the list, tell the answer and the next list
 pub record Told (s : State) (d : Reply) (m : Made Answer) : Type 0 where
@@ -132,18 +142,18 @@ order-told r s o = ⊎-elim lacking done (order-meets r s o)
         let e : roomBy ((numbersOf ((order r s) .answer)) .number) ≡ true = ap (λ a. roomBy ((numbersOf a) .number)) (m .answered) ∙ with-room r (plainOf s) in
         subst (λ b. Goal b (order r s)) (sym e) (record { answered = m .answered; plain-is = m .plain-is })
 
--- refused, it lacks nodes, or its code is unknown
+-- refused, it lacks nodes, or its code is unknown, or its key is spent
 abbrev Refuses : Answer → Type 0
 Refuses a = refusal a ≡ true → OrderRefusal a
 
 ordered-refuses : (b : Bool) (r : Order) (p : Plain) → Refuses ((ordered b r p) .said)
 ordered-refuses b r p =
     let x = look (r .key) (p .pairs) in
-    ordered-cases b r p (λ m. Refuses (m .said)) (by (not b && isNone x) (putTo true (r .key) (r .val) p) (replaced-done x)) (λ e. both-ways e (got-done x)) (λ e. both-ways e (got-done x)) (λ e. inr refl)
+    ordered-cases b r p (λ m. Refuses (m .said)) (by (not b && isNone x) NoRoom (putTo true (r .key) (r .val) p) (inl refl) (replaced-done x)) (λ e. both-ways e (got-done x)) (λ e. both-ways e (got-done x)) (by (reached (r .key) (p .mark)) spentAnswer (record { said = Done; plain = record { pairs = p .pairs; mark = seen (r .key) }; spent = reserved (r .key) ∷ [] }) (inr (inr refl)) refl) (λ e. inr (inl refl))
   where
-    by : (c : Bool) (m : Made Answer) → refusal (m .said) ≡ false → Refuses ((cond c (only NoRoom p) m) .said)
-    by true m f e = inl refl
-    by false m f e = both-ways e f
+    by : (c : Bool) (a : Answer) (m : Made Answer) → OrderRefusal a → refusal (m .said) ≡ false → Refuses ((cond c (only a p) m) .said)
+    by true a m o f e = o
+    by false a m o f e = both-ways e f
 
 pub order-refuses : (r : Order) (s : State) → Sound s → Refuses ((order r s) .answer)
 order-refuses r s o = subst Refuses (sym ((order-told r s o) .answered)) (ordered-refuses (roomBy ((numbersOf ((order r s) .answer)) .number)) r (plainOf s))

@@ -9,21 +9,21 @@ use mathlib.Core.Option.{none}
 use lib.Dec.{ltb}
 use lib.ListN.{length, take}
 use Rattle.model.specs.declared.Answer.{Answer}
-use Rattle.model.specs.declared.Answer.the-variants.{Done, NoRoom, BadRange, BadOrder}
+use Rattle.model.specs.declared.Answer.the-variants.{Done, NoRoom, BadRange, Spent, BadOrder}
 use Rattle.model.specs.declared.Range.{Range}
 use Rattle.model.specs.Layout.{header, freeWord}
 use Rattle.model.specs.Tree.{Ctx}
 use Rattle.model.specs.Search.{gap, search}
 use Rattle.model.specs.Insert.{needed}
-use Rattle.model.specs.Mark.{higher, storedMark}
+use Rattle.model.specs.Mark.{higher, reached, storedMark}
 use Rattle.model.specs.Map.{look, range, Panics}
 use Rattle.model.specs.Answer.{numbersOf}
-use Rattle.model.specs.State.{State, Order, putCode, deleteCode, triples}
+use Rattle.model.specs.State.{State, Order, putCode, deleteCode, reserveCode, triples}
 use Rattle.model.specs.WellFormed.{WellFormed}
 use Rattle.model.specs.Promise.{Refusal, badSize, badArena, badImage, AnyCount, Holds, Fits, room, laid}
 use Rattle.model.specs.Public as promise
 use Rattle.demands.specs.Stored.{stored, held}
-use Rattle.demands.specs.Plain.{empty, bringing, only, putTo, getFrom, deleteFrom, ordered, orderedAll, roomsBy}
+use Rattle.demands.specs.Plain.{empty, bringing, only, putTo, getFrom, deleteFrom, reserveOn, ordered, orderedAll, roomsBy}
 use Rattle.demands.specs.Call.{Call, refusal, inAnswer, inListing}
 
 -- ---- refusals, by the words
@@ -47,6 +47,10 @@ noRoom k w = record { answer = NoRoom; when = Lacks k w }
 
 abbrev pub noRoomFor : Order → List ℕ → Refusal
 noRoomFor o w = record { answer = NoRoom; when = (o .code ≡ putCode) × Lacks (o .key) w }
+
+-- the mark has reached the key
+abbrev pub spent : ℕ → List ℕ → Refusal
+spent k w = record { answer = Spent; when = reached k (storedMark w) ≡ true }
 
 -- ---- formatting begins a history with the empty list
 
@@ -107,11 +111,22 @@ delete k = record {
   begins = false;
 }
 
+abbrev pub reserve : (key : ℕ) → Call
+reserve k = record {
+  promise = promise.reserve k;
+  speech = inAnswer;
+  refusals = λ w. badArena w ∷ spent k w ∷ [];
+  rooms = λ r l. [];
+  does = λ rooms p. reserveOn k p;
+  leaves = λ w w′ l. Unit {0};
+  begins = false;
+}
+
 -- ---- a single order: the call of its code; any other code is refused
 
 -- the codes of orders that only read, and unknown ones
 abbrev pub reads : Order → Type 0
-reads o = (o .code ≡ putCode → ⊥) × (o .code ≡ deleteCode → ⊥)
+reads o = (o .code ≡ putCode → ⊥) × (o .code ≡ deleteCode → ⊥) × (o .code ≡ reserveCode → ⊥)
 
 abbrev pub order : Order → Call
 order o = record {
@@ -141,7 +156,7 @@ list q o = record {
 
 -- the refusals that an order of a batch that runs may have
 abbrev pub OrderRefusal : Answer → Type 0
-OrderRefusal r = (r ≡ NoRoom) ⊎ (r ≡ BadOrder)
+OrderRefusal r = (r ≡ NoRoom) ⊎ (r ≡ BadOrder) ⊎ (r ≡ Spent)
 
 -- the first order as a single call would, from the words w; its answer's two words stand in its place. The words between two orders are well-formed
 pub record First (o : Order) (w a : List ℕ) (Rest : List ℕ → List ℕ → Type 0) : Type 0 where

@@ -13,6 +13,7 @@ pub data Public : Call → Type 1 where
   get : (key : ℕ) → Public (call.get key)
   put : (key val : ℕ) → Public (call.put key val)
   delete : (key : ℕ) → Public (call.delete key)
+  reserve : (key : ℕ) → Public (call.reserve key)
   order : (o : Order) → Public (call.order o)
   list : (q : Range) (output : List ℕ) → Public (call.list q output)
   batch : (orders answers : List ℕ) → Public (call.batch orders answers)

@@ -44,6 +44,16 @@ pub fn put(a: &mut [u64], key: u64, val: u64) -> Answer
     insert::put(a, key, val)
 }
 
+// Spends a key above the mark, with no pair put.
+pub fn reserve(a: &mut [u64], key: u64) -> Answer
+    ensures { λ r. ⌜ Promised (promise.reserve key) (now (a .entry)) (now (a .exit)) tt r ⌝ }
+{
+    if !well_formed(a) {
+        return Answer::BadArena;
+    }
+    reserve::reserve(a, key)
+}
+
 // Takes the pair of a key out, and answers its value.
 pub fn delete(a: &mut [u64], key: u64) -> Answer
     ensures { λ r. ⌜ Promised (promise.delete key) (now (a .entry)) (now (a .exit)) tt r ⌝ }

@@ -46,6 +46,9 @@ put k v = alone (Call (on.put k v))
 abbrev pub delete : (key : ℕ) → Promise
 delete k = alone (Call (on.delete k))
 
+abbrev pub reserve : (key : ℕ) → Promise
+reserve k = alone (Call (on.reserve k))
+
 abbrev pub order : on.Order → Promise
 order o = alone (Call (on.order o))
 

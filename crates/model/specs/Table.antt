@@ -16,7 +16,7 @@ use Rattle.model.specs.Range.{badRange, keysOf, Fork, parted, together, 
 use Rattle.model.specs.Mark.{seenOf, markOf}
 use Rattle.model.specs.Insert.{Split, Side, left, right as rightSide, splitpoint}
 use Rattle.model.specs.Answer.{numbersOf}
-use Rattle.model.specs.State.{State, Order, formatted, order, list, restored, putCode, deleteCode}
+use Rattle.model.specs.State.{State, Order, formatted, order, list, restored, putCode, deleteCode, reserveCode}
 use Rattle.model.specs.Map.{range}
 use Rattle.model.specs.Words.{wordsOf}
 use Rattle.model.specs.Promise.{pairWords}
@@ -34,6 +34,9 @@ puts = map (λ k. call (record { code = putCode; key = k; val = k + 1000 }))
 
 abbrev pub deletes : List ℕ → List Step
 deletes = map (λ k. call (record { code = deleteCode; key = k; val = 0 }))
+
+abbrev pub reserves : List ℕ → List Step
+reserves = map (λ k. call (record { code = reserveCode; key = k; val = 0 }))
 
 -- the arena, the copy, and what the last step answered
 pub record Machine : Type 0 where
@@ -137,6 +140,11 @@ table =
     record { size = 1; steps = puts (9 ∷ []) ++ copy ∷ puts (12 ∷ []) ++ restore ∷ lists AllIncluded AllIncluded ∷ []; said = 0 ∷ 9 ∷ 1009 ∷ []; nodes = (0 ∷ 9 ∷ []) ∷ []; free = []; mark = 12 } ∷
     -- of two siblings the left one is chosen
     record { size = 4; steps = puts (count 1 19) ++ deletes (8 ∷ 9 ∷ []); said = 1 ∷ 1009 ∷ []; nodes = (2 ∷ 14 ∷ []) ∷ (0 ∷ count 1 7 ++ count 10 4) ∷ (3 ∷ count 15 5) ∷ []; free = 1 ∷ []; mark = 19 } ∷
+    -- reserve: key 0 in an unseen arena is above the mark, and then not; a key above it becomes it, and a put below it stays allowed
+    record { size = 1; steps = reserves (0 ∷ []); said = 0 ∷ 0 ∷ []; nodes = (0 ∷ []) ∷ []; free = []; mark = 0 } ∷
+    record { size = 1; steps = reserves (0 ∷ 0 ∷ []); said = 11 ∷ 0 ∷ []; nodes = (0 ∷ []) ∷ []; free = []; mark = 0 } ∷
+    record { size = 1; steps = puts (5 ∷ []) ++ reserves (9 ∷ 9 ∷ []); said = 11 ∷ 0 ∷ []; nodes = (0 ∷ 5 ∷ []) ∷ []; free = []; mark = 9 } ∷
+    record { size = 1; steps = puts (5 ∷ []) ++ reserves (9 ∷ []) ++ puts (7 ∷ []); said = 0 ∷ 0 ∷ []; nodes = (0 ∷ 5 ∷ 7 ∷ []) ∷ []; free = []; mark = 9 } ∷
     -- beyond those marked: an empty leaf root stays; freed nodes are used again, the lowest first
     record { size = 1; steps = puts (5 ∷ []) ++ deletes (5 ∷ []); said = 1 ∷ 1005 ∷ []; nodes = (0 ∷ []) ∷ []; free = []; mark = 5 } ∷
     record { size = 3; steps = puts (count 1 12) ++ deletes (12 ∷ []) ++ puts (12 ∷ []); said = 0 ∷ 0 ∷ []; nodes = (2 ∷ 7 ∷ []) ∷ (0 ∷ count 1 6) ∷ (1 ∷ count 8 5) ∷ []; free = []; mark = 12 } ∷

@@ -13,6 +13,7 @@ pub enum Answer {
     BadOrder,
     BadSize,
     BadImage,
+    Spent,
 }
 
 // A bound of a range. AllIncluded is an open one; AllExcluded arises in the descent, and admits no key.
@@ -51,6 +52,7 @@ impl Answer {
             Answer::BadOrder => 6,
             Answer::BadSize => 7,
             Answer::BadImage => 8,
+            Answer::Spent => 11,
         }
     }
 
@@ -68,6 +70,7 @@ impl Answer {
             Answer::BadOrder => 0,
             Answer::BadSize => 0,
             Answer::BadImage => 0,
+            Answer::Spent => 0,
         }
     }
 }

@@ -19,7 +19,7 @@ use Rattle.model.specs.declared.Answer.{Answer}
 use Rattle.model.specs.declared.Answer.the-variants.{Done, BadArena, BadSize, BadImage}
 use Rattle.model.proofs.Decode.{stateOf}
 use Rattle.model.proofs.Forward.{forward}
-use Rattle.model.proofs.Held.{words-header}
+use Rattle.model.proofs.Header.{seen-is, mark-is}
 
 -- ---- a turn of the copy: one more word is the image's
 
@@ -50,13 +50,6 @@ mark-higher (seen a) (seen b) = refl
 pub restored-words : (s i : State) → wordsOf (restored s i) ≡ set (set (wordsOf i) seenWord (max (seenOf (s .mark)) (seenOf (i .mark)))) markWord (max (markOf (s .mark)) (markOf (i .mark)))
 unfolding wordsOf arena
 restored-words s i = rw (← seen-higher (s .mark) (i .mark), ← mark-higher (s .mark) (i .mark)) refl
-
--- the mark's words, where words hold a state
-seen-is : {w : List ℕ} {s : State} → Holds w s → getD w seenWord 0 ≡ seenOf (s .mark)
-seen-is o = ap (λ (x : List ℕ). header x seenWord) (o .words) ∙ words-header (o .sound) seenWord (lit< tt)
-
-mark-is : {w : List ℕ} {s : State} → Holds w s → getD w markWord 0 ≡ markOf (s .mark)
-mark-is o = ap (λ (x : List ℕ). header x markWord) (o .words) ∙ words-header (o .sound) markWord (lit< tt)
 
 left-words : {w i : List ℕ} {s t : State} → Holds w s → Holds i t → set (set i seenWord (max (getD w seenWord 0) (getD i seenWord 0))) markWord (max (getD w markWord 0) (getD i markWord 0)) ≡ wordsOf (restored s t)
 left-words {s = s} {t = t} o p = rw (seen-is o, mark-is o, seen-is p, mark-is p, p .words) (sym (restored-words s t))

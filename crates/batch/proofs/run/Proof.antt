@@ -8,7 +8,7 @@ use Rattle.model.specs.State.{State, Reply}
 use Rattle.model.specs.Words.{wordsOf}
 use Rattle.model.specs.Promise.{Holds}
 use Rattle.model.proofs.Ends.{stays, does-as}
-use Rattle.batch.proofs.Turns.{order-put, order-get, order-delete, order-bad}
+use Rattle.batch.proofs.Turns.{order-put, order-get, order-delete, order-reserve, order-bad}
 use lib.ListN.{length, getD, set, length-set}
 use borrow.Author.Needs.{needs}
 use Rattle.batch.proofs.run.Statement.{statement}
@@ -41,8 +41,17 @@ same-length-3 c = search needs
 returns-3 : tie.Need-returns-3
 returns-3 c = λ s o. let x = c .before .before .before .before .before .before .before .before .args in does-as (order-delete (x .code) (x .key) (x .val) s (c .before .before .before .before .before .before .if1 .left) (c .before .before .before .before .before .if2 .left) (c .before .before .before .before .if3 .taken)) (c .before .before .delete .ensures s o)
 
+reserve-requires : tie.Need-reserve-requires
+reserve-requires c κs = search needs
+
+same-length-4 : tie.Need-same-length-4
+same-length-4 c = search needs
+
 returns-4 : tie.Need-returns-4
-returns-4 c = λ s o. let x = c .before .before .before .before .args in stays o (order-bad (x .code) (x .key) (x .val) s (c .before .before .if1 .left) (c .before .if2 .left) (c .if3 .left))
+returns-4 c = λ s o. let x = c .before .before .before .before .before .before .before .before .before .args in does-as (order-reserve (x .code) (x .key) (x .val) s (c .before .before .before .before .before .before .before .if1 .left) (c .before .before .before .before .before .before .if2 .left) (c .before .before .before .before .before .if3 .left) (c .before .before .before .before .if4 .taken)) (c .before .before .reserve .ensures s o)
+
+returns-5 : tie.Need-returns-5
+returns-5 c = λ s o. let x = c .before .before .before .before .before .args in stays o (order-bad (x .code) (x .key) (x .val) s (c .before .before .before .if1 .left) (c .before .before .if2 .left) (c .before .if3 .left) (c .if4 .left))
 
 pub run-spec : {M : Type 1} → statement M
 run-spec =
@@ -57,4 +66,7 @@ run-spec =
     delete-requires
     same-length-3
     returns-3
-    returns-4)
+    reserve-requires
+    same-length-4
+    returns-4
+    returns-5)
