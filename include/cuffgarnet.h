@@ -25,7 +25,7 @@ extern "C" {
 #endif
 
 /* The numbers that calls return, and that a batch writes for each order. From 3 on they are refusals: no lent word has
- * changed, but for the second words, which are then 0. Where several would fit, the first of 7, 4, 8, 5, 6, 3 or 11 is given. */
+ * changed, but for the second words, which are then 0. Where several would fit, the first of 7, 4, 8, 12, 5, 6, 3 or 11 is given. */
 enum cuffgarnet_answer {
     CUFFGARNET_DONE = 0,      /* put a new key; reserved; formatted; checked; listed; restored; batch run */
     CUFFGARNET_VALUE = 1,     /* get: found; put: replaced; delete: removed; the second word is the (former) value */
@@ -36,7 +36,8 @@ enum cuffgarnet_answer {
     CUFFGARNET_BAD_ORDER = 6, /* an order's code is not 1, 2, 3 or 4 */
     CUFFGARNET_BAD_SIZE = 7,  /* a length that cannot be: see format, batch and restore */
     CUFFGARNET_BAD_IMAGE = 8, /* the image is not a well-formed arena */
-    CUFFGARNET_SPENT = 11     /* reserve of a key that is not above the mark */
+    CUFFGARNET_SPENT = 11,    /* reserve of a key that is not above the mark */
+    CUFFGARNET_OLDER = 12     /* restore of an image with a lower mark, without the word that an older one is meant */
 };
 
 /* The kinds of bound. */
@@ -45,6 +46,9 @@ enum cuffgarnet_bound {
     CUFFGARNET_INCLUDED = 1, /* the range begins or ends with the key */
     CUFFGARNET_EXCLUDED = 2  /* the range begins after the key, or ends before it */
 };
+
+/* The word of cuffgarnet_restore that an older image is meant. Every other word is a no. */
+#define CUFFGARNET_OLDER_IS_MEANT 1u
 
 /* The codes of a batch's orders. */
 enum cuffgarnet_code {
@@ -100,9 +104,10 @@ uint64_t cuffgarnet_batch(uint64_t *arena, uint64_t n, const uint64_t *orders, u
                           uint64_t answers_n);
 
 /* Copies an image (the words of an arena, saved earlier) over the arena; the mark becomes the larger of the two. 0; 7 if
- * the lengths differ; 4; 8 if the image is not well-formed. The image does not change. A restore that is killed may have lowered
+ * the lengths differ; 4; 8 if the image is not well-formed; 12 if its mark is lower than the arena's (or it has none, while the
+ * arena has seen one) and `older` is not 1. The image does not change. A restore that is killed may have lowered
  * the mark, so restore into a copy of the arena's file and rename it. */
-uint64_t cuffgarnet_restore(uint64_t *arena, uint64_t n, const uint64_t *image, uint64_t image_n);
+uint64_t cuffgarnet_restore(uint64_t *arena, uint64_t n, const uint64_t *image, uint64_t image_n, uint64_t older);
 
 #ifdef __cplusplus
 }

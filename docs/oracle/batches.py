@@ -25,9 +25,14 @@ def run(a, orders, answers):
     print("".join("%d " % x for x in words(a)))
 
 
+# The image's mark is lower than the arena's, which was seen.
+def lower(image, a):
+    return a.seen and (not image.seen or image.mark < a.mark)
+
+
 # The arena after it.
-def bring_back(a, image):
-    number = 7 if len(words(a)) != len(words(image)) else 4 if not good(a) else 8 if not good(image) else 0
+def bring_back(a, image, older):
+    number = 7 if len(words(a)) != len(words(image)) else 4 if not good(a) else 8 if not good(image) else 12 if not older and lower(image, a) else 0
     if number == 0:
         seen, mark, a = a.seen, a.mark, copy.deepcopy(image)
         a.seen, a.mark = max(seen, a.seen), max(mark, a.mark)
@@ -48,8 +53,8 @@ def no_arena():
     run(a, [1, 5, 50], [9, 9, 9])
     run(a, [1, 5, 50], [9, 9])
     run(a, [], [])
-    a = bring_back(a, [7] * 86)
-    a = bring_back(a, [7] * 48)
+    a = bring_back(a, [7] * 86, False)
+    a = bring_back(a, [7] * 48, False)
 
 
 def no_image():
@@ -57,11 +62,12 @@ def no_image():
     wrong = image.words()
     wrong[5] = 1
     run(a, [1, 5, 50], [9, 9])
-    a = bring_back(a, [7] * 86)
-    a = bring_back(a, wrong)
+    a = bring_back(a, [7] * 86, False)
+    a = bring_back(a, wrong, False)
     run(a, [2, 5, 0, 1], [9, 9])
     run(a, [2, 5, 0], [9, 9])
-    a = bring_back(a, image)
+    a = bring_back(a, image, False)
+    a = bring_back(a, image, True)
     run(a, [2, 5, 0], [9, 9])
 
 
@@ -71,11 +77,17 @@ def nonces():
     image = copy.deepcopy(a)
     run(a, [1, 12, 120], [9, 9])
     later = copy.deepcopy(a)
-    a = bring_back(a, image)
+    a = bring_back(a, image, False)
+    a = bring_back(a, image, True)
     run(a, [2, 9, 0, 2, 12, 0], [9] * 4)
     a = Tree(1)
     run(a, [1, 3, 30], [9, 9])
-    a = bring_back(a, later)
+    a = bring_back(a, later, False)
+    a = bring_back(a, later, False)
+    blank, a = Tree(1), Tree(1)
+    a = bring_back(a, blank, False)
+    run(a, [4, 0, 0], [9, 9])
+    a = bring_back(a, blank, False)
 
 
 def reserves():
@@ -96,7 +108,7 @@ def split():
     puts(a, [(i, 100 + i) for i in range(1, 13)])
     image = copy.deepcopy(a)
     run(a, [3, 12, 0, 3, 7, 0, 1, 20, 120], [9] * 6)
-    a = bring_back(a, image)
+    a = bring_back(a, image, True)
     run(a, [3, 12, 0, 3, 7, 0, 2, 20, 0], [9] * 6)
 
 

@@ -125,7 +125,7 @@ static void recover(void) {
     must(cuffgarnet_format(arena, WORDS) == CUFFGARNET_DONE, "format");
     raise_mark(arena);
     if (read_words(IMAGE, image, WORDS) == WORDS) /* the image's pairs, the larger of both marks */
-        must(cuffgarnet_restore(arena, WORDS, image, WORDS) == CUFFGARNET_DONE, "restore");
+        must(cuffgarnet_restore(arena, WORDS, image, WORDS, CUFFGARNET_OLDER_IS_MEANT) == CUFFGARNET_DONE, "restore");
     replace(ARENA, arena, WORDS);
 }
 

@@ -60,7 +60,8 @@ int main(void) {
     say("delete 2", number, second);
     list_all();
 
-    say("restore", cuffgarnet_restore(arena, N, image, N), 0);
+    say("restore", cuffgarnet_restore(arena, N, image, N, 0), 0);
+    say("restore, an older one is meant", cuffgarnet_restore(arena, N, image, N, CUFFGARNET_OLDER_IS_MEANT), 0);
     list_all();
     printf("next counter %llu\n", (unsigned long long)next_counter());
 
@@ -83,7 +84,7 @@ int main(void) {
     say("from 6 to 5", number, written);
     say("format 47 words", cuffgarnet_format(image, 47), 0);
     image[CUFFGARNET_WORD_PAIRS] += 1;
-    say("restore a damaged image", cuffgarnet_restore(arena, N, image, N), 0);
+    say("restore a damaged image", cuffgarnet_restore(arena, N, image, N, CUFFGARNET_OLDER_IS_MEANT), 0);
     say("no words at all", cuffgarnet_check(NULL, 0), 0);
     return 0;
 }

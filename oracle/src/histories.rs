@@ -28,7 +28,8 @@ fn one_range(totals: &mut Totals, pair: &mut Pair<'_>, source: &mut Source) -> R
     pair.list(totals, start, end, long)
 }
 
-/// A history of batches, all words compared after each; now and then an image is kept, and restored later.
+/// A history of batches, all words compared after each; now and then an image is kept, and restored later: over what the history became, or
+/// over an arena that is formatted anew, with or without a batch of its own.
 #[allow(clippy::too_many_arguments)]
 fn batches(
     totals: &mut Totals,
@@ -52,12 +53,23 @@ fn batches(
             .map_err(|why| format!("{kind:?}, {count} nodes, seed {seed}, batch at {done}: {why}"))?;
         done += batch as u64;
         one_range(totals, &mut pair, &mut source)?;
-        if restores && source.random.below(25) == 0 {
+        if restores && source.random.below(10) == 0 {
             match image.take() {
                 None => image = Some(pair.ours.clone()),
                 Some(image) => {
-                    pair.restore(totals, &image)?;
+                    if source.random.below(4) == 0 {
+                        pair = Pair::new(&slab, &other, fault)?;
+                        let few = source.random.below(2) as usize * batch;
+                        pair.batch(totals, few, |rust| source.order(rust)).and_then(|()| pair.compare(totals))?;
+                    }
+                    // a word that is no yes, or the yes; where the first is refused, the yes afterwards
+                    let older = [0, 0, 2, u64::MAX, 1][source.random.below(5) as usize];
+                    let done = pair.restore(totals, &image, older)?;
                     pair.compare(totals)?;
+                    if !done {
+                        pair.restore(totals, &image, 1)?;
+                        pair.compare(totals)?;
+                    }
                 }
             }
         }

@@ -24,10 +24,12 @@ pub enum Fault {
     More,
     /// A spent key is handed out again: 11 is passed on as 0.
     Twice,
+    /// A restore of an older image reaches our index with the yes that was not given.
+    Meant,
 }
 
 impl Fault {
-    pub const NAMES: [&str; 6] = ["value", "kept", "chain", "halves", "more", "twice"];
+    pub const NAMES: [&str; 7] = ["value", "kept", "chain", "halves", "more", "twice", "meant"];
 
     pub fn named(name: &str) -> Option<Fault> {
         Some(match name {
@@ -37,13 +39,16 @@ impl Fault {
             "halves" => Fault::Halves,
             "more" => Fault::More,
             "twice" => Fault::Twice,
+            "meant" => Fault::Meant,
             _ => return None,
         })
     }
 }
 
-/// How many times a fault would have its turn before it does.
-const RARE: u64 = 1000;
+/// How many times a fault would have its turn before it does; restores are fewer than orders.
+fn rare(fault: Fault) -> u64 {
+    if fault == Fault::Meant { 3 } else { 1000 }
+}
 
 #[derive(Default)]
 pub struct Totals {
@@ -57,6 +62,9 @@ pub struct Totals {
     /// BadRange on a map with no root, where the Rust does not panic: the listed difference.
     pub rootless: u64,
     pub restores: u64,
+    /// Of them, those of an older image, with the yes; and how often one was refused without it.
+    pub older: u64,
+    pub not_meant: u64,
     pub words: u64,
     pub compares: u64,
     pub placed: u64,
@@ -101,7 +109,11 @@ impl fmt::Display for Totals {
         writeln!(f, "nodes taken {}, returned {} by the Rust", self.taken, self.returned)?;
         writeln!(f, "listings {}, refused as bad ranges {}, pairs listed {}", self.listings, self.refused, self.listed)?;
         writeln!(f, "bad ranges on a map with no root, where the Rust does not panic (listed): {}", self.rootless)?;
-        writeln!(f, "restores {}", self.restores)?;
+        writeln!(
+            f,
+            "restores {}, of them of older images with the yes {}; older images refused without it {}",
+            self.restores, self.older, self.not_meant
+        )?;
         writeln!(f, "lengths and damaged arenas asked {}, of them no arenas {}", self.refusals, self.refused_arenas)?;
         writeln!(f, "reserves around the mark, by the rule alone: {}", self.reserves)?;
         if cfg!(inner) {
@@ -151,7 +163,7 @@ impl<'s> Pair<'s> {
             return false;
         }
         totals.turns += 1;
-        totals.turns % RARE == 0
+        totals.turns % rare(fault) == 0
     }
 
     fn pass(&self, totals: &mut Totals, order: [u64; 3]) -> [u64; 3] {
@@ -305,13 +317,21 @@ impl<'s> Pair<'s> {
         Ok(())
     }
 
-    /// Restores an image; the Rust's side is laid out from the image's words anew.
-    pub fn restore(&mut self, totals: &mut Totals, image: &[u64]) -> Result<(), String> {
+    /// Restores an image, with the word whether an older one is meant; whether that was done. By request (viii) only a 1 lets an older image
+    /// pass. The Rust's side is laid out from the image's words anew, or stays as it is.
+    pub fn restore(&mut self, totals: &mut Totals, image: &[u64], older: u64) -> Result<bool, String> {
         let kept = image.to_vec();
         let (seen, mark) = (self.rust.seen, self.rust.mark);
-        let number = ours::restore(&mut self.ours, image);
-        if number != 0 || kept != image {
-            return Err(format!("restore: {number}"));
+        let is_older = words::is_older((seen, mark), (image[words::SEEN], image[words::MARK]));
+        let wanted = if is_older && older != 1 { 12 } else { 0 };
+        let passed = if wanted == 12 && self.due(totals, Fault::Meant) { 1 } else { older };
+        let number = ours::restore(&mut self.ours, image, passed);
+        if number != wanted || kept != image {
+            return Err(format!("restore with the word {older}, over seen {seen} and mark {mark}: {number}, not {wanted}"));
+        }
+        if wanted == 12 {
+            totals.not_meant += 1;
+            return Ok(false);
         }
         self.rust = Rust::from_words(self.slab, self.other, image)?;
         self.before = self.slab.traffic();
@@ -319,7 +339,8 @@ impl<'s> Pair<'s> {
         self.rust.seen = self.rust.seen.max(seen);
         self.rust.mark = self.rust.mark.max(mark);
         totals.restores += 1;
-        Ok(())
+        totals.older += u64::from(is_older);
+        Ok(true)
     }
 }
 

@@ -1,6 +1,6 @@
-//! What the Rust has no counterpart of: document 01's refusals, held against that document read anew in words.rs, and reserves. Words are
-//! damaged one at a time, free chains laid in every order, and every call must say so exactly where they are then no arena; no refused call
-//! may change a lent word.
+//! What the Rust has no counterpart of: document 01's refusals, held against that document read anew in words.rs; reserves, and images that
+//! are older, against the rules of document 02. Words are damaged one at a time, free chains laid in every order, and every call must say so
+//! exactly where they are then no arena; no refused call may change a lent word.
 
 use crate::ours;
 use crate::pair::Totals;
@@ -73,30 +73,60 @@ fn sizes(totals: &mut Totals) -> Result<(), String> {
         (87, false, false, 7),
         (124, false, false, 7),
     ] {
-        let (mut w, mut image) = (whole.clone(), whole.clone());
-        w[7] += u64::from(arena_bad);
-        image[7] += u64::from(image_bad);
-        image.resize(long, 0);
-        let (before, kept) = (w.clone(), image.clone());
-        let number = ours::restore(&mut w, &image);
-        totals.refusals += 1;
-        if number != wanted || w != before || image != kept {
-            return Err(format!("restore of {long} words: {number}, not {wanted}"));
+        // an image that is older comes after all of them, and only where the word is no yes
+        for (marked, older) in [false, true].into_iter().flat_map(|marked| WORDS.map(|older| (marked, older))) {
+            let (mut w, mut image) = (whole.clone(), whole.clone());
+            (w[words::SEEN], w[words::MARK]) = if marked { (1, 5) } else { (0, 0) };
+            w[7] += u64::from(arena_bad);
+            image[7] += u64::from(image_bad);
+            image.resize(long, 0);
+            let (before, kept) = (w.clone(), image.clone());
+            let wanted = if wanted == 0 && marked && older != 1 { 12 } else { wanted };
+            let number = ours::restore(&mut w, &image, older);
+            totals.refusals += 1;
+            if number != wanted || w != before || image != kept {
+                return Err(format!("restore of {long} words with the word {older}: {number}, wanted {wanted}; {:?}", &w[..10]));
+            }
         }
     }
-    // seen if either was, and the larger of the marks
-    let marks = [(0, 0), (1, 0), (1, 5), (1, u64::MAX)];
-    for (ours_marked, image_marked) in marks.into_iter().flat_map(|a| marks.map(|b| (a, b))) {
-        let (mut w, mut image) = (whole.clone(), whole.clone());
-        (w[words::SEEN], w[words::MARK]) = ours_marked;
-        (image[words::SEEN], image[words::MARK]) = image_marked;
-        let number = ours::restore(&mut w, &image);
-        let mut wanted = image.clone();
-        wanted[words::SEEN] = ours_marked.0.max(image_marked.0);
-        wanted[words::MARK] = ours_marked.1.max(image_marked.1);
-        totals.restores += 1;
-        if number != 0 || w != wanted {
-            return Err(format!("restore of mark {image_marked:?} over {ours_marked:?}: {number}, {:?}", &w[..10]));
+    older(totals)
+}
+
+/// What a restore may be told: 1 is the yes.
+const WORDS: [u64; 4] = [0, 1, 2, u64::MAX];
+
+/// Images over arenas, each with no pair, one or three, unseen or with several marks: refused with 12 by the rule alone, else the image's words
+/// but for seen, if either was, and the larger of the marks.
+fn older(totals: &mut Totals) -> Result<(), String> {
+    let mut random = Random::new(11);
+    let mut all = vec![words::formatted(2)];
+    for (pairs, marks) in [(0, vec![0, 1, 5, 6]), (1, vec![2, 5, 6]), (3, vec![6, 7])] {
+        for mark in marks.into_iter().chain([u64::MAX]) {
+            let mut w = Plan::Leaf(pairs).words(1, &mut random);
+            w[words::MARK] = mark;
+            all.push(w);
+        }
+    }
+    let marked = |w: &[u64]| (w[words::SEEN], w[words::MARK]);
+    for (arena, image) in all.iter().flat_map(|a| all.iter().map(move |b| (a, b))) {
+        let (had, has) = (marked(arena), marked(image));
+        let is_older = words::is_older(had, has);
+        for word in WORDS {
+            let (mut w, kept) = (arena.clone(), image.clone());
+            let number = ours::restore(&mut w, &kept, word);
+            let mut wanted = image.clone();
+            (wanted[words::SEEN], wanted[words::MARK]) = (had.0.max(has.0), had.1.max(has.1));
+            let refused = is_older && word != 1;
+            if refused {
+                wanted = arena.clone();
+                totals.not_meant += 1;
+            } else {
+                totals.restores += 1;
+                totals.older += u64::from(is_older);
+            }
+            if number != (if refused { 12 } else { 0 }) || w != wanted || kept != *image {
+                return Err(format!("restore of {has:?} over {had:?} with the word {word}: {number}, {:?}", &w[..10]));
+            }
         }
     }
     Ok(())
@@ -262,15 +292,17 @@ fn one(totals: &mut Totals, w: &[u64], image: &[u64]) -> Result<(), String> {
             return Err(format!("a listing says {said:?}"));
         }
     }
-    let number = ours::restore(&mut a, image);
-    if number != 4 || a != w {
-        return Err(format!("restore over it says {number}"));
-    }
-    if words::well_formed(image) {
-        let mut whole = image.to_vec();
-        let number = ours::restore(&mut whole, w);
-        if number != 8 || whole != image {
-            return Err(format!("restore of it says {number}"));
+    for word in [0, 1] {
+        let number = ours::restore(&mut a, image, word);
+        if number != 4 || a != w {
+            return Err(format!("restore over it says {number}"));
+        }
+        if words::well_formed(image) {
+            let mut whole = image.to_vec();
+            let number = ours::restore(&mut whole, w, word);
+            if number != 8 || whole != image {
+                return Err(format!("restore of it says {number}"));
+            }
         }
     }
     Ok(())

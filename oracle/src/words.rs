@@ -73,6 +73,11 @@ pub fn chain(w: &[u64]) -> Result<Vec<u64>, String> {
     Ok(chain)
 }
 
+/// Request (viii)'s older image, by seen and mark of the arena and of the image.
+pub fn is_older(arena: (u64, u64), image: (u64, u64)) -> bool {
+    arena.0 == 1 && (image.0 == 0 || image.1 < arena.1)
+}
+
 pub fn formatted(count: usize) -> Vec<u64> {
     let mut w = vec![0; long(count)];
     let chain: Vec<u64> = (1..count as u64).collect();

@@ -158,7 +158,7 @@ fn recover(files: &Files) -> Result<(), Box<dyn Any>> {
     raise(&mut index, files)?;
     let image = read(&files.image)?;
     if !image.is_empty() {
-        index.restore(&image)?; // the image's pairs, the larger of both marks
+        index.restore_older(&image)?; // the image's pairs, the larger of both marks
     }
     replace(&files.arena, index.words())
 }

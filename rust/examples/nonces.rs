@@ -29,7 +29,9 @@ fn main() -> Result<(), Box<dyn std::error::Error>> {
         println!("slot {slot} under counter {}", send(&mut index, slot)?);
     }
 
-    index.restore(&image)?;
+    let refused = index.restore(&image);
+    println!("restore: {}", refused.map_or_else(|why| why.to_string(), |()| "done".to_string()));
+    index.restore_older(&image)?;
     println!("restored: {} pairs, mark {:?}", index.len()?, index.mark()?);
     for pair in index.iter() {
         let (counter, slot) = pair?;

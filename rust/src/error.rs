@@ -4,7 +4,7 @@ use crate::ffi::Said;
 use std::fmt;
 
 /// Why a call was refused. A refused call has changed no word. Where several would fit, the first of BadSize, BadArena,
-/// BadImage, BadRange, BadOrder, NoRoom or Spent is given.
+/// BadImage, Older, BadRange, BadOrder, NoRoom or Spent is given.
 #[derive(Clone, Copy, Debug, Eq, Hash, PartialEq)]
 #[non_exhaustive]
 pub enum Error {
@@ -22,6 +22,8 @@ pub enum Error {
     BadImage,
     /// 11: the key that was to be reserved is not above the mark.
     Spent,
+    /// 12: the image's mark is lower than the index's.
+    Older,
     /// A number that this version does not know; the library that it is built with gives none.
     Other(u64),
 }
@@ -41,6 +43,7 @@ impl Error {
             Error::BadSize => 7,
             Error::BadImage => 8,
             Error::Spent => 11,
+            Error::Older => 12,
             Error::Other(number) => number,
         }
     }
@@ -54,6 +57,7 @@ impl Error {
             7 => Error::BadSize,
             8 => Error::BadImage,
             11 => Error::Spent,
+            12 => Error::Older,
             _ => Error::Other(number),
         }
     }
@@ -69,6 +73,7 @@ impl fmt::Display for Error {
             Error::BadSize => f.write_str("a number of words that cannot be"),
             Error::BadImage => f.write_str("the image is not a well-formed arena"),
             Error::Spent => f.write_str("the counter is spent: reserve one above the mark"),
+            Error::Older => f.write_str("the image is older than the index: if that is meant, say restore_older"),
             Error::Other(number) => write!(f, "refused with the unknown number {number}"),
         }
     }

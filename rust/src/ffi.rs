@@ -29,7 +29,7 @@ unsafe extern "C" {
         answers: *mut u64,
         answers_n: u64,
     ) -> u64;
-    fn cuffgarnet_restore(arena: *mut u64, n: u64, image: *const u64, image_n: u64) -> u64;
+    fn cuffgarnet_restore(arena: *mut u64, n: u64, image: *const u64, image_n: u64, older: u64) -> u64;
 }
 
 /// What a word holds before a call writes it, as every call does; not 0, so that oracle/ would notice one left unwritten.
@@ -121,6 +121,6 @@ pub fn batch(arena: &mut [u64], orders: &[u64], answers: &mut [u64]) -> u64 {
     }
 }
 
-pub fn restore(arena: &mut [u64], image: &[u64]) -> u64 {
-    unsafe { cuffgarnet_restore(arena.as_mut_ptr(), arena.len() as u64, image.as_ptr(), image.len() as u64) }
+pub fn restore(arena: &mut [u64], image: &[u64], older: u64) -> u64 {
+    unsafe { cuffgarnet_restore(arena.as_mut_ptr(), arena.len() as u64, image.as_ptr(), image.len() as u64, older) }
 }

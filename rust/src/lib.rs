@@ -364,13 +364,35 @@ impl<W: Words> Index<W> {
         self.words.words().to_vec()
     }
 
-    /// Brings the pairs of a snapshot back. The mark becomes the larger of the two: a key that was ever put or reserved here, or in the
-    /// snapshot, stays spent. The mark of an arena that is lost is in neither: it has to be put first. A restore that is killed
-    /// may have lowered the mark, so restore into a copy and rename it (docs/OPERATING.md).
+    /// Brings the pairs of a snapshot back, unless it is older than this index: its mark is lower, or it has none while this has
+    /// one. The mark becomes the larger of the two: a key that was ever put or reserved here, or in the snapshot, stays spent. The
+    /// mark of an arena that is lost is in neither: it has to be reserved first. A restore that is killed may have lowered the mark,
+    /// so restore into a copy and rename it (docs/OPERATING.md).
     ///
     /// # Errors
     /// [`Error::BadSize`] if the image is not as long as this index, [`Error::BadArena`], [`Error::BadImage`] if the
-    /// image is not a well-formed arena. No word has changed then.
+    /// image is not a well-formed arena, [`Error::Older`]. No word has changed then.
+    ///
+    /// ```
+    /// use cuffgarnet::{Error, Index};
+    /// let mut index = Index::with_nodes(4)?;
+    /// index.insert(9, 0)?;
+    /// let image = index.snapshot();
+    /// index.remove(9)?;
+    /// index.restore(&image)?;
+    /// assert_eq!(index.get(9)?, Some(0));
+    /// index.insert(12, 0)?;
+    /// assert_eq!(index.restore(&image), Err(Error::Older));
+    /// # Ok::<(), Error>(())
+    /// ```
+    pub fn restore(&mut self, image: &[u64]) -> Result<(), Error> {
+        error::done(ffi::restore(self.words.words_mut(), image, 0))
+    }
+
+    /// The same where an older snapshot is meant. The mark stays the larger of the two.
+    ///
+    /// # Errors
+    /// As [`restore`](Self::restore), but for [`Error::Older`].
     ///
     /// ```
     /// use cuffgarnet::{Error, Index};
@@ -378,13 +400,13 @@ impl<W: Words> Index<W> {
     /// index.insert(9, 0)?;
     /// let image = index.snapshot();
     /// index.insert(12, 0)?;
-    /// index.restore(&image)?;
+    /// index.restore_older(&image)?;
     /// assert_eq!(index.get(12)?, None);
     /// assert_eq!(index.mark()?, Some(12));
     /// # Ok::<(), Error>(())
     /// ```
-    pub fn restore(&mut self, image: &[u64]) -> Result<(), Error> {
-        error::done(ffi::restore(self.words.words_mut(), image))
+    pub fn restore_older(&mut self, image: &[u64]) -> Result<(), Error> {
+        error::done(ffi::restore(self.words.words_mut(), image, 1))
     }
 
     /// A header word, once the arena is checked.

@@ -161,7 +161,10 @@ fn restores() {
     let image = index.snapshot();
     index.insert(12, 1).unwrap();
     index.remove(9).unwrap();
-    index.restore(&image).unwrap();
+    let later = index.snapshot();
+    assert_eq!(index.restore(&image), Err(Error::Older));
+    assert_eq!(index.words(), later);
+    index.restore_older(&image).unwrap();
     assert_eq!(index.iter().collect::<Result<Vec<_>, _>>(), Ok(vec![(9, !9)]));
     assert_eq!(index.mark(), Ok(Some(12)));
 
@@ -174,7 +177,8 @@ fn restores() {
     assert_eq!(index.words(), before);
 
     let unseen = Index::with_nodes(8).unwrap();
-    index.restore(unseen.words()).unwrap();
+    assert_eq!(index.restore(unseen.words()), Err(Error::Older));
+    index.restore_older(unseen.words()).unwrap();
     assert_eq!((index.is_empty(), index.mark()), (Ok(true), Ok(Some(12))));
     assert_eq!(unseen.mark(), Ok(None));
 }

@@ -100,7 +100,7 @@ fn a_restore_that_is_killed_may_lower_the_mark() {
         index.insert(key, key).unwrap();
     }
     let left = killed_at(image.len() - 1, index.words(), |words| {
-        _ = Index::open(words).and_then(|mut index| index.restore(&image));
+        _ = Index::open(words).and_then(|mut index| index.restore_older(&image));
     });
     let left = Index::open(left).unwrap(); // believed
     assert_eq!((index.mark(), left.mark()), (Ok(Some(25)), Ok(Some(20))));

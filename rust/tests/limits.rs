@@ -113,7 +113,7 @@ fn recovered(nodes: usize, saved: Option<u64>, image: Option<&[u64]>) -> Result<
         index.reserve(mark)?; // raises the mark
     }
     if let Some(image) = image {
-        index.restore(image)?; // the image's pairs, the larger of both marks
+        index.restore_older(image)?; // the image's pairs, the larger of both marks
     }
     Ok(index)
 }

@@ -16,8 +16,8 @@ fn four(a: &mut [u64], orders: &[u64]) {
     run(a, orders, &mut [9; 8]);
 }
 
-fn bring_back(a: &mut [u64], image: &[u64]) {
-    say_answer(restore(a, image));
+fn bring_back(a: &mut [u64], image: &[u64], older: bool) {
+    say_answer(restore(a, image, older));
     say_line(a);
 }
 
@@ -28,8 +28,8 @@ fn no_arena() {
     run(&mut a, &[1, 5, 50], &mut [9, 9, 9]);
     run(&mut a, &[1, 5, 50], &mut [9, 9]);
     run(&mut a, &[], &mut []);
-    bring_back(&mut a, &[7; 86]);
-    bring_back(&mut a, &[7; 48]);
+    bring_back(&mut a, &[7; 86], false);
+    bring_back(&mut a, &[7; 48], false);
 }
 
 // An image that counts a pair too many is none, and neither is one of another length: the arena keeps its pair.
@@ -38,17 +38,18 @@ fn no_image() {
     format(&mut a);
     let mut image = a;
     run(&mut a, &[1, 5, 50], &mut [9, 9]);
-    bring_back(&mut a, &[7; 86]);
+    bring_back(&mut a, &[7; 86], false);
     image[5] = 1;
-    bring_back(&mut a, &image);
+    bring_back(&mut a, &image, false);
     run(&mut a, &[2, 5, 0, 1], &mut [9, 9]);
     run(&mut a, &[2, 5, 0], &mut [9, 9]);
     image[5] = 0;
-    bring_back(&mut a, &image);
+    bring_back(&mut a, &image, false);
+    bring_back(&mut a, &image, true);
     run(&mut a, &[2, 5, 0], &mut [9, 9]);
 }
 
-// Put 9, copy, put 12, restore the copy: only 9, mark 12; and of a mark and a higher one the image's.
+// Put 9, copy, put 12, restore the copy, which is refused unless an older one is meant: only 9, mark 12; and of a mark and a higher one the image's.
 fn nonces() {
     let mut a = [7; 48];
     format(&mut a);
@@ -56,11 +57,23 @@ fn nonces() {
     let image = a;
     run(&mut a, &[1, 12, 120], &mut [9, 9]);
     let later = a;
-    bring_back(&mut a, &image);
+    bring_back(&mut a, &image, false);
+    bring_back(&mut a, &image, true);
     run(&mut a, &[2, 9, 0, 2, 12, 0], &mut [9, 9, 9, 9]);
     format(&mut a);
     run(&mut a, &[1, 3, 30], &mut [9, 9]);
-    bring_back(&mut a, &later);
+    bring_back(&mut a, &later, false);
+    bring_back(&mut a, &later, false);
+}
+
+// Nothing seen on both sides is not older; a seen mark of 0 is above none.
+fn unseen() {
+    let mut a = [7; 48];
+    format(&mut a);
+    let image = a;
+    bring_back(&mut a, &image, false);
+    run(&mut a, &[4, 0, 0], &mut [9, 9]);
+    bring_back(&mut a, &image, false);
 }
 
 // A reserve hands a counter out once; a put below the mark stays allowed; code 5 is none.
@@ -91,7 +104,7 @@ fn split() {
     four(&mut a, &[1, 9, 109, 1, 10, 110, 1, 11, 111, 1, 12, 112]);
     let image = a;
     run(&mut a, &[3, 12, 0, 3, 7, 0, 1, 20, 120], &mut [9; 6]);
-    bring_back(&mut a, &image);
+    bring_back(&mut a, &image, true);
     run(&mut a, &[3, 12, 0, 3, 7, 0, 2, 20, 0], &mut [9; 6]);
 }
 
@@ -99,6 +112,7 @@ fn main() {
     no_arena();
     no_image();
     nonces();
+    unseen();
     reserves();
     no_room();
     split();

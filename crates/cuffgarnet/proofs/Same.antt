@@ -2,7 +2,7 @@
 -- Assumes nothing.
 use Prim.Native.Nat.{ℕ}
 use mathlib.Core.Path.{_≡_, sym, ap, _∙_}
-use mathlib.Core.Bool.{false, cond}
+use mathlib.Core.Bool.{Bool, false, cond}
 use mathlib.Core.List.{List, [], _∷_}
 use Rattle.model.specs.declared.Answer.{Answer}
 use Rattle.model.specs.declared.Listed.{Listed}
@@ -36,8 +36,8 @@ same-call call w x y = let e = one-call call w (x .given) (y .given) in let f = 
 pub same-batch : (b w a : List ℕ) {w₁ w₂ a₁ a₂ : List ℕ} {n m : ℕ} → Numbered (Batch b w w₁ a a₁) n → Numbered (Batch b w w₂ a a₂) m → (w₁ ≡ w₂) × (a₁ ≡ a₂) × (n ≡ m)
 same-batch b w a x y = let e = one-batch b w a (x .given) (y .given) in (e .0, e .1, one-number x y (e .2))
 
-pub same-restore : (w i : List ℕ) {w₁ w₂ : List ℕ} {n m : ℕ} → Numbered (Restore w w₁ i) n → Numbered (Restore w w₂ i) m → (w₁ ≡ w₂) × (n ≡ m)
-same-restore w i x y = let e = one-restore w i (x .given) (y .given) in (e .0, one-number x y (e .1))
+pub same-restore : (meant : Bool) (w i : List ℕ) {w₁ w₂ : List ℕ} {n m : ℕ} → Numbered (Restore meant w w₁ i) n → Numbered (Restore meant w w₂ i) m → (w₁ ≡ w₂) × (n ≡ m)
+same-restore meant w i x y = let e = one-restore meant w i (x .given) (y .given) in (e .0, one-number x y (e .1))
 
 -- a listing between two bounds, of whatever kinds
 one-refused : (w o : List ℕ) {o₁ o₂ : List ℕ} {r₁ r₂ : Listed} → Between Unknown Unknown w o o₁ r₁ → Between Unknown Unknown w o o₂ r₂ → (o₁ ≡ o₂) × (r₁ ≡ r₂)

@@ -4,6 +4,7 @@ use Prim.Native.Nat.{ℕ, zero, suc}
 use mathlib.Core.Path.{_≡_}
 use mathlib.Core.Bool.{Bool, true, false, cond}
 use mathlib.Core.List.{List, [], _∷_}
+use lib.Dec.{eqb}
 use Rattle.model.specs.declared.Answer.{Answer}
 use Rattle.model.specs.declared.Answer.the-variants.{BadRange}
 use Rattle.model.specs.declared.Listed.{Listed}
@@ -33,6 +34,10 @@ pub record Told (allowed : Listed → Type 0) (number written more : ℕ) : Type
   pub number-is : number ≡ (numbersOf (listed .answer)) .number
   pub written-is : written ≡ listed .wrote
   pub more-is : more ≡ cond (listed .more) 1 0
+
+-- the word that an older image is meant: 1, and no other
+abbrev pub meantBy : ℕ → Bool
+meantBy older = eqb older 1
 
 -- the kinds of bound: 0 open, 1 included, 2 excluded, and no other
 abbrev pub boundOf : ℕ → ℕ → Bound

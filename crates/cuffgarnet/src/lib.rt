@@ -23,7 +23,7 @@ ghost use Rattle.model.specs.Public.{Promised};
 ghost use Rattle.model.specs.Public as promise;
 ghost use Rattle.batch.specs.Orders.{orderOf};
 ghost use Rattle.cuffgarnet.specs.declared.Bound.the-variants.{Unknown};
-ghost use Rattle.cuffgarnet.specs.Exported.{Numbered, Worded, Told, boundOf, Between};
+ghost use Rattle.cuffgarnet.specs.Exported.{Numbered, Worded, Told, meantBy, boundOf, Between};
 
 // A bound asked for by its kind.
 pub enum Bound {
@@ -185,11 +185,11 @@ pub extern "C" fn cuffgarnet_batch(arena: &mut [u64], orders: &[u64], answers: &
     ran.number()
 }
 
-// Restores an image; the mark stays.
+// Restores an image; the mark stays. An older image is meant where the last word is 1, and not where it is any other.
 #[no_mangle]
-pub extern "C" fn cuffgarnet_restore(arena: &mut [u64], image: &[u64]) -> u64
-    ensures { λ r. ⌜ Numbered (Promised (promise.restore (now (image .entry))) (now (arena .entry)) (now (arena .exit)) tt) r ⌝ }
+pub extern "C" fn cuffgarnet_restore(arena: &mut [u64], image: &[u64], older: u64) -> u64
+    ensures { λ r. ⌜ Numbered (Promised (promise.restore (meantBy older) (now (image .entry))) (now (arena .entry)) (now (arena .exit)) tt) r ⌝ }
 {
-    let restored = restore(arena, image);
+    let restored = restore(arena, image, older == 1);
     restored.number()
 }

@@ -4,7 +4,7 @@ use Prim.Native.Nat.{ℕ, _<_}
 use native.Mathlib.Omega.{arith}
 use mathlib.Core.Path.{_≡_, refl, sym, ap, subst, fun-ext, _∙_}
 use mathlib.Core.Logic.{_⊎_, inl, inr, ⊎-elim}
-use mathlib.Core.Bool.{true, false}
+use mathlib.Core.Bool.{Bool, true, false}
 use mathlib.Core.List.{List, [], _∷_}
 use mathlib.Core.Option.{none}
 use lib.Dec.{lit<, ltb}
@@ -38,8 +38,9 @@ use Rattle.demands.specs.Calls as call
 use Rattle.demands.specs.Calls.{Lacks, reads, InTurn}
 use Rattle.model.proofs.Header.{stored-mark, header-is}
 use Rattle.demands.proofs.Reading.{plainOf, stored-is, held-is}
-use Rattle.demands.proofs.Orders.{both-ways, with-room}
+use Rattle.demands.proofs.Orders.{with-room}
 use Rattle.demands.proofs.Steps.{Meets, NoneFor, get-meets, delete-meets, reserve-meets, none-there, put-meets, order-meets, order-refuses, batch-size, batch-plain, batch-said}
+use Rattle.model.proofs.Ends.{both-ways}
 use Rattle.demands.proofs.Marks.{put-raises, reserve-raises, order-raises, batch-raises, mark-raises}
 use Rattle.demands.proofs.Lawful.{Lawful, kept-words, long-is, Left, left-of, called-did, ends-map, refused-alone, refused-beside, one-alone, state-lawful, reply-refused}
 
@@ -230,15 +231,15 @@ batch-lawful b a = record {
 
 -- ---- restore
 
-pub restore-lawful : (i : List ℕ) → Lawful (call.restore i)
-restore-lawful i = record {
-  by-map = λ w w′ l r. ends-map ((call.restore i) .refusals w) (refused-alone (call.restore i) refl) (λ n x. did (n .0) x);
-  one-end = λ w w₁ w₂ l₁ l₂ r₁ r₂ x y. one-alone (one-restore w i x y);
+pub restore-lawful : (meant : Bool) (i : List ℕ) → Lawful (call.restore meant i)
+restore-lawful meant i = record {
+  by-map = λ w w′ l r. ends-map ((call.restore meant i) .refusals w) (refused-alone (call.restore meant i) refl) (λ n x. did (n .0) x);
+  one-end = λ w w₁ w₂ l₁ l₂ r₁ r₂ x y. one-alone (one-restore meant w i x y);
   refusing = λ w. refl;
   raises = λ rooms p. mark-raises (p .mark) (storedMark i);
 }
   where
-    did : {w w′ : List ℕ} {r : Answer} → ((length i ≡ length w → ⊥) → ⊥) → Restored w w′ i r → Did (call.restore i) w w′ tt r
+    did : {w w′ : List ℕ} {r : Answer} → ((length i ≡ length w → ⊥) → ⊥) → Restored w w′ i r → Did (call.restore meant i) w w′ tt r
     did {w} n x =
         let s = x .state in
         let t = x .image in

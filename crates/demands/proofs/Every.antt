@@ -28,7 +28,7 @@ use Rattle.demands.specs.History.{Turn, Run, Standing, after, afterAll, 
 use Rattle.demands.specs.Demands.{AsTheMap, AnyHistory, OneEnd}
 use Rattle.model.proofs.Header.{header-is, seen-is, mark-is, mark-by, stored-mark}
 use Rattle.demands.proofs.Reading.{stored-is}
-use Rattle.demands.proofs.Orders.{both-ways}
+use Rattle.model.proofs.Ends.{both-ways}
 use Rattle.demands.proofs.Marks.{spending-none, spending-more, mark-raises, NotBelow, not-below}
 use Rattle.demands.proofs.Lawful.{allRefused, Lawful}
 use Rattle.demands.proofs.Calls as calls
@@ -45,7 +45,7 @@ lawful _ (reserve k) = calls.reserve-lawful k
 lawful _ (order o) = calls.order-lawful o
 lawful _ (list q o) = calls.list-lawful q o
 lawful _ (batch b a) = calls.batch-lawful b a
-lawful _ (restore i) = calls.restore-lawful i
+lawful _ (restore m i) = calls.restore-lawful m i
 
 pub as-the-map : AsTheMap
 as-the-map c p = (lawful c p) .by-map

@@ -24,7 +24,8 @@ use Rattle.demands.specs.Plain.{Plain, reserved, Made, only, isNone, put
 use Rattle.demands.specs.Call.{refusal}
 use Rattle.demands.specs.Calls.{OrderRefusal}
 use Rattle.demands.proofs.Reading.{plainOf}
-use Rattle.demands.proofs.Orders.{both-ways, ordered-put, ordered-get, ordered-delete, ordered-reserve, ordered-other, ordered-cases, with-room, put-none}
+use Rattle.demands.proofs.Orders.{ordered-put, ordered-get, ordered-delete, ordered-reserve, ordered-other, ordered-cases, with-room, put-none}
+use Rattle.model.proofs.Ends.{both-ways}
 
 -- a reply on the state s is what is made of the plain list; refused, it left the state
 pub record Meets (s : State) (d : Reply) (m : Made Answer) : Type 0 where

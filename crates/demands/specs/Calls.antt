@@ -2,7 +2,7 @@
 -- Assumes nothing.
 use Prim.Native.Nat.{ℕ, zero, _<_, min}
 use mathlib.Core.Path.{_≡_}
-use mathlib.Core.Bool.{true, false}
+use mathlib.Core.Bool.{true, false, Bool}
 use mathlib.Core.Logic.{_⊎_}
 use mathlib.Core.List.{List, [], _∷_}
 use mathlib.Core.Option.{none}
@@ -20,7 +20,7 @@ use Rattle.model.specs.Map.{look, range, Panics}
 use Rattle.model.specs.Answer.{numbersOf}
 use Rattle.model.specs.State.{State, Order, putCode, deleteCode, reserveCode, triples}
 use Rattle.model.specs.WellFormed.{WellFormed}
-use Rattle.model.specs.Promise.{Refusal, badSize, badArena, badImage, AnyCount, Holds, Fits, room, laid}
+use Rattle.model.specs.Promise.{Refusal, badSize, badArena, badImage, older, AnyCount, Holds, Fits, room, laid}
 use Rattle.model.specs.Public as promise
 use Rattle.demands.specs.Stored.{stored, held}
 use Rattle.demands.specs.Plain.{empty, bringing, only, putTo, getFrom, deleteFrom, reserveOn, ordered, orderedAll, roomsBy}
@@ -188,11 +188,11 @@ batch b a = record {
 
 -- ---- restore: the image's pairs, and the larger of the marks seen
 
-abbrev pub restore : (image : List ℕ) → Call
-restore i = record {
-  promise = promise.restore i;
+abbrev pub restore : (older : Bool) (image : List ℕ) → Call
+restore meant i = record {
+  promise = promise.restore meant i;
   speech = inAnswer;
-  refusals = λ w. badSize (length i ≡ length w → ⊥) ∷ badArena w ∷ badImage i ∷ [];
+  refusals = λ w. badSize (length i ≡ length w → ⊥) ∷ badArena w ∷ badImage i ∷ older meant w i ∷ [];
   rooms = λ r l. [];
   does = λ rooms p. record { said = Done; plain = record { pairs = stored i; mark = higher (p .mark) (storedMark i) }; spent = bringing (storedMark i) };
   leaves = λ w w′ l. Unit {0};

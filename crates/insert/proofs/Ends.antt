@@ -9,7 +9,7 @@ use lib.ListN.{length, getD, set, length-append}
 use lib.Seq.{set-getD}
 use borrow.Author.Tests.{le-leb, lt-leb}
 use Rattle.model.specs.declared.Answer.{Answer}
-use Rattle.model.specs.declared.Answer.the-variants.{Done, Value, Absent, NoRoom, BadArena, BadRange, BadOrder, BadSize, BadImage, Spent}
+use Rattle.model.specs.declared.Answer.the-variants.{Done, Value, Absent, NoRoom, BadArena, BadRange, BadOrder, BadSize, BadImage, Spent, Older}
 use Rattle.model.specs.Layout.{most, largestCount, header, pairsWord, freeWord, NodeVal, nth, Arena}
 use Rattle.model.specs.Tree.{Pair, Item, Tree, Ctx, Whole, plug, fill, flatOf}
 use Rattle.model.specs.Search.{Spot, at, gap, search}
@@ -184,6 +184,7 @@ module _ (k : ℕ) (s : State) (d : Reply) (w w′ : List ℕ) where
   if-neither BadSize a b q = absurd q
   if-neither BadImage a b q = absurd q
   if-neither Spent a b q = absurd q
+  if-neither Older a b q = absurd q
 
 -- ---- counted and spent
 

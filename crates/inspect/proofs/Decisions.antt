@@ -21,6 +21,13 @@ pub refuted : (b : Bool) {P : Type 0} → Decides b P → not b ≡ true → P �
 refuted true d e p = subst IsTrue (sym e) tt
 refuted false d e p = d p
 
+-- the test `b` held, or failed
+pub held : (b : Bool) {P : Type 0} → Decides b P → b ≡ true → P
+held b {P} d e = subst (λ (t : Bool). Decides t P) e d
+
+pub failed : (b : Bool) {P : Type 0} → Decides b P → b ≡ false → P → ⊥
+failed b {P} d e = subst (λ (t : Bool). Decides t P) e d
+
 -- a test of one thing is a test of another that is as true
 pub decides-as : (b : Bool) {P Q : Type 0} → (P → Q) → (Q → P) → Decides b P → Decides b Q
 decides-as true f g d = f d

@@ -1,7 +1,7 @@
 -- Document 01's cases marked (P): one table, and one statement that runs through it.
 -- Assumes nothing.
 use Prim.Native.Nat.{ℕ, zero, suc, _+_}
-use mathlib.Core.Bool.{Bool, true, false, cond, _&&_}
+use mathlib.Core.Bool.{Bool, true, false, cond, not, _&&_}
 use mathlib.Core.Path.{_≡_, refl}
 use mathlib.Core.List.{List, [], _∷_, _++_, map}
 use lib.Dec.{eqb}
@@ -13,7 +13,7 @@ use Rattle.model.specs.Lists.{count, pad, insertAt}
 use Rattle.model.specs.Layout.{none, nodeWords, frame, arena}
 use Rattle.model.specs.Tree.{Pair, Item, Node, Tree, Frame, Ctx, top, under}
 use Rattle.model.specs.Range.{badRange, keysOf, Fork, parted, together, forkOf}
-use Rattle.model.specs.Mark.{seenOf, markOf}
+use Rattle.model.specs.Mark.{seenOf, markOf, lower}
 use Rattle.model.specs.Insert.{Split, Side, left, right as rightSide, splitpoint}
 use Rattle.model.specs.Answer.{numbersOf}
 use Rattle.model.specs.State.{State, Order, formatted, order, list, restored, putCode, deleteCode, reserveCode}
@@ -25,7 +25,8 @@ use Rattle.model.specs.Promise.{pairWords}
 
 pub data Step : Type 0 where
   call : Order → Step
-  copy restore : Step
+  copy : Step
+  restore : (older : Bool) → Step
   lists : SearchBound → SearchBound → Step
 
 -- puts of keys, each with 1000 more as its value; deletes
@@ -50,7 +51,9 @@ saidOf q s = cond (badRange q) (5 ∷ []) (0 ∷ pairWords (range q (list s)))
 abbrev pub step : Step → Machine → Machine
 step (call o) m = let d = order o (m .state) in let n = numbersOf (d .answer) in record { state = d .state; image = m .image; said = n .number ∷ n .word ∷ [] }
 step copy m = record { state = m .state; image = m .state; said = [] }
-step restore m = record { state = restored (m .state) (m .image); image = m .image; said = 0 ∷ 0 ∷ [] }
+step (restore meant) m =
+    cond (not meant && lower (m .image .mark) (m .state .mark)) (record { state = m .state; image = m .image; said = 12 ∷ 0 ∷ [] })
+    (record { state = restored (m .state) (m .image); image = m .image; said = 0 ∷ 0 ∷ [] })
 step (lists a b) m = record { state = m .state; image = m .image; said = saidOf (record { start = a; end = b }) (m .state) }
 
 abbrev pub run : List Step → Machine → Machine
@@ -136,8 +139,13 @@ table =
     record { size = 1; steps = puts (5 ∷ []) ++ lists (Excluded 5) (Excluded 6) ∷ []; said = 0 ∷ []; nodes = (0 ∷ 5 ∷ []) ∷ []; free = []; mark = 5 } ∷
     record { size = 1; steps = puts (5 ∷ []) ++ lists (Included 5) (Included 5) ∷ []; said = 0 ∷ 5 ∷ 1005 ∷ []; nodes = (0 ∷ 5 ∷ []) ∷ []; free = []; mark = 5 } ∷
     record { size = 1; steps = puts (5 ∷ []) ++ lists (Excluded 4) (Included 5) ∷ []; said = 0 ∷ 5 ∷ 1005 ∷ []; nodes = (0 ∷ 5 ∷ []) ∷ []; free = []; mark = 5 } ∷
-    -- put 9, copy, put 12, restore the copy: only 9, mark 12
-    record { size = 1; steps = puts (9 ∷ []) ++ copy ∷ puts (12 ∷ []) ++ restore ∷ lists AllIncluded AllIncluded ∷ []; said = 0 ∷ 9 ∷ 1009 ∷ []; nodes = (0 ∷ 9 ∷ []) ∷ []; free = []; mark = 12 } ∷
+    -- put 9, copy, put 12, restore the copy, which is meant to be older: only 9, mark 12
+    record { size = 1; steps = puts (9 ∷ []) ++ copy ∷ puts (12 ∷ []) ++ restore true ∷ lists AllIncluded AllIncluded ∷ []; said = 0 ∷ 9 ∷ 1009 ∷ []; nodes = (0 ∷ 9 ∷ []) ∷ []; free = []; mark = 12 } ∷
+    -- without the yes it is refused; of equal marks it is not, though 12 is gone
+    record { size = 1; steps = puts (9 ∷ []) ++ copy ∷ puts (12 ∷ []) ++ restore false ∷ []; said = 12 ∷ 0 ∷ []; nodes = (0 ∷ 9 ∷ 12 ∷ []) ∷ []; free = []; mark = 12 } ∷
+    record { size = 1; steps = puts (12 ∷ 9 ∷ []) ++ copy ∷ deletes (9 ∷ []) ++ restore false ∷ []; said = 0 ∷ 0 ∷ []; nodes = (0 ∷ 9 ∷ 12 ∷ []) ∷ []; free = []; mark = 12 } ∷
+    -- an arena that has seen 0 and is empty, and an image that has seen nothing
+    record { size = 1; steps = copy ∷ puts (0 ∷ []) ++ deletes (0 ∷ []) ++ restore false ∷ []; said = 12 ∷ 0 ∷ []; nodes = (0 ∷ []) ∷ []; free = []; mark = 0 } ∷
     -- of two siblings the left one is chosen
     record { size = 4; steps = puts (count 1 19) ++ deletes (8 ∷ 9 ∷ []); said = 1 ∷ 1009 ∷ []; nodes = (2 ∷ 14 ∷ []) ∷ (0 ∷ count 1 7 ++ count 10 4) ∷ (3 ∷ count 15 5) ∷ []; free = 1 ∷ []; mark = 19 } ∷
     -- reserve: key 0 in an unseen arena is above the mark, and then not; a key above it becomes it, and a put below it stays allowed

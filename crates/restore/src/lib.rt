@@ -5,9 +5,12 @@ use node::MARK;
 use node::SEEN;
 use node::larger;
 ghost use mathlib.Core.Path.{_≡_};
+ghost use mathlib.Core.Bool.{true, false};
 ghost use Prim.Native.Nat.{_≤_, max};
 ghost use lib.ListN.{length, getD, set};
 ghost use Rattle.model.specs.Layout.{headerSize, seenWord, markWord};
+ghost use Rattle.model.specs.Mark as mark;
+ghost use Rattle.inspect.specs.Tests.{Decides};
 ghost use Rattle.model.specs.Public.{Promised};
 ghost use Rattle.model.specs.Public as promise;
 
@@ -35,9 +38,35 @@ fn keep_mark(a: &mut [u64], seen: u64, mark: u64)
     a[MARK] = m;
 }
 
-// Copies the image's words over the arena; seen is 1 if either had it, and the mark is the larger of those seen.
-pub fn restore(a: &mut [u64], image: &[u64]) -> Answer
-    ensures { λ r. ⌜ Promised (promise.restore (now (image .entry))) (now (a .entry)) (now (a .exit)) tt r ⌝ }
+// Whether an image's mark is lower than the arena's, which was seen.
+fn lower(image: &[u64], a: &[u64]) -> bool
+    requires { ⌜ (headerSize ≤ length (now image)) × (headerSize ≤ length (now a)) ⌝ }
+    ensures { λ r. ⌜ r ≡ mark.lower (mark.storedMark (now (image .entry))) (mark.storedMark (now (a .entry))) ⌝ }
+{
+    if a[SEEN] == 0 {
+        return false;
+    }
+    if image[SEEN] == 0 {
+        return true;
+    }
+    image[MARK] < a[MARK]
+}
+
+// Whether an image with a lower mark comes without the word that an older one is meant.
+fn too_old(image: &[u64], a: &[u64], older: bool) -> bool
+    requires { ⌜ (headerSize ≤ length (now image)) × (headerSize ≤ length (now a)) ⌝ }
+    ensures { λ r. ⌜ Decides r ((older ≡ false) × (mark.lower (mark.storedMark (now (image .entry))) (mark.storedMark (now (a .entry))) ≡ true)) ⌝ }
+{
+    if older {
+        return false;
+    }
+    lower(image, a)
+}
+
+// Copies the image's words over the arena; seen is 1 if either had it, and the mark is the larger of those seen. An image with a lower mark
+// than the arena's needs the word that an older one is meant.
+pub fn restore(a: &mut [u64], image: &[u64], older: bool) -> Answer
+    ensures { λ r. ⌜ Promised (promise.restore older (now (image .entry))) (now (a .entry)) (now (a .exit)) tt r ⌝ }
 {
     if image.len() != a.len() {
         return Answer::BadSize;
@@ -47,6 +76,9 @@ pub fn restore(a: &mut [u64], image: &[u64]) -> Answer
     }
     if !well_formed(image) {
         return Answer::BadImage;
+    }
+    if too_old(image, a, older) {
+        return Answer::Older;
     }
     let seen = a[SEEN];
     let mark = a[MARK];

@@ -4,8 +4,8 @@ use mathlib.Core.Path.{_≡_}
 use native.Mathlib.Omega.{arith}
 use lib.ListN.{length}
 use Rattle.model.specs.WellFormed.{WellFormed}
-use Rattle.inspect.proofs.Decisions.{decided, refuted}
-use Rattle.restore.proofs.Restored.{headed, wrong-size, bad-words, bad-image, done}
+use Rattle.inspect.proofs.Decisions.{decided, refuted, held, failed}
+use Rattle.restore.proofs.Restored.{headed, wrong-size, bad-words, bad-image, not-meant, done}
 use borrow.Author.Needs.{needs}
 use Rattle.restore.proofs.restore.Statement.{statement}
 use Rattle.restore.proofs.restore.Tie as tie
@@ -26,7 +26,7 @@ image-formed c = decided (c .before .well-formed2 .result) (c .before .well-form
 returns : tie.Need-returns
 returns c =
     let x = c .before .before .before .args in
-    wrong-size (x .a .now) (x .image .now) (λ e. omega arith)
+    wrong-size (x .older) (x .a .now) (x .image .now) (λ e. omega arith)
 
 well-formed-requires : tie.Need-well-formed-requires
 well-formed-requires c κs = search needs
@@ -37,7 +37,7 @@ same-length c = search needs
 returns-2 : tie.Need-returns-2
 returns-2 c =
     let x = c .before .before .before .before .before .before .args in
-    bad-words (x .a .now) (x .image .now) (as-long (c .before .before .before)) (refuted (c .before .well-formed .result) (c .before .well-formed .ensures) (c .if2 .taken))
+    bad-words (x .older) (x .a .now) (x .image .now) (as-long (c .before .before .before)) (refuted (c .before .well-formed .result) (c .before .well-formed .ensures) (c .if2 .taken))
 
 well-formed-requires-2 : tie.Need-well-formed-requires-2
 well-formed-requires-2 c κs = search needs
@@ -49,31 +49,49 @@ returns-3 : tie.Need-returns-3
 returns-3 c =
     let e = c .before .before in
     let x = e .before .before .before .before .before .before .args in
-    bad-image (x .a .now) (x .image .now) (as-long (e .before .before .before)) (formed e) (refuted (c .before .well-formed2 .result) (c .before .well-formed2 .ensures) (c .if3 .taken))
+    bad-image (x .older) (x .a .now) (x .image .now) (as-long (e .before .before .before)) (formed e) (refuted (c .before .well-formed2 .result) (c .before .well-formed2 .ensures) (c .if3 .taken))
 
-slice-read-seen : tie.Need-slice-read-seen
-slice-read-seen c = omega (arith, headed (formed (passed (c .before))))
+-- behind the test for an older image all checks have passed
+abbrev checked : tie.Else4 → tie.Else3
+checked c = c .before .before .before
 
-slice-read-mark : tie.Need-slice-read-mark
-slice-read-mark c = omega (arith, headed (formed (passed (c .before .before))))
-
-copy-over-requires : tie.Need-copy-over-requires
-copy-over-requires c κs = search needs
-
-keep-mark-requires : tie.Need-keep-mark-requires
-keep-mark-requires c κs =
-    let e = passed (c .before .before .before .before .before .before .before) in
-    rw (c .before .before .before .copy-over .ensures) (omega (arith, headed (formed e), as-long (e .before .before .before)))
+too-old-requires : tie.Need-too-old-requires
+too-old-requires c κs = (omega (arith, headed (image-formed (c .before))), omega (arith, headed (formed (passed (c .before)))))
 
 same-length-3 : tie.Need-same-length-3
 same-length-3 c = search needs
 
 returns-4 : tie.Need-returns-4
 returns-4 c =
-    let g = c .before .before .before .before .before .before .before .before .before .before in
+    let g = c .before .before .before in
     let e = passed g in
     let x = e .before .before .before .before .before .before .args in
-    done (x .a .now) (x .image .now) (as-long (e .before .before .before)) (formed e) (image-formed g) _ _ (c .before .before .before .before .before .before .copy-over .ensures) (c .before .before .keep-mark .ensures)
+    not-meant (x .older) (x .a .now) (x .image .now) (as-long (e .before .before .before)) (formed e) (image-formed g) (held (c .before .too-old .result) (c .before .too-old .ensures) (c .if4 .taken))
+
+slice-read-seen : tie.Need-slice-read-seen
+slice-read-seen c = omega (arith, headed (formed (passed (checked (c .before)))))
+
+slice-read-mark : tie.Need-slice-read-mark
+slice-read-mark c = omega (arith, headed (formed (passed (checked (c .before .before)))))
+
+copy-over-requires : tie.Need-copy-over-requires
+copy-over-requires c κs = search needs
+
+keep-mark-requires : tie.Need-keep-mark-requires
+keep-mark-requires c κs =
+    let e = passed (checked (c .before .before .before .before .before .before .before)) in
+    rw (c .before .before .before .copy-over .ensures) (omega (arith, headed (formed e), as-long (e .before .before .before)))
+
+same-length-4 : tie.Need-same-length-4
+same-length-4 c = search needs
+
+returns-5 : tie.Need-returns-5
+returns-5 c =
+    let t = c .before .before .before .before .before .before .before .before .before .before in
+    let g = checked t in
+    let e = passed g in
+    let x = e .before .before .before .before .before .before .args in
+    done (x .older) (x .a .now) (x .image .now) (as-long (e .before .before .before)) (formed e) (image-formed g) (failed (t .before .too-old .result) (t .before .too-old .ensures) (t .if4 .left)) _ _ (c .before .before .before .before .before .before .copy-over .ensures) (c .before .before .keep-mark .ensures)
 
 pub restore-spec : {M : Type 1} → statement M
 restore-spec =
@@ -86,9 +104,12 @@ restore-spec =
     well-formed-requires-2
     same-length-2
     returns-3
+    too-old-requires
+    same-length-3
+    returns-4
     slice-read-seen
     slice-read-mark
     copy-over-requires
     keep-mark-requires
-    same-length-3
-    returns-4)
+    same-length-4
+    returns-5)
