@@ -3,7 +3,9 @@
 use Prim.Native.Nat.{ℕ, zero, suc, _+_, _-_, _≤_, _<_}
 use native.Mathlib.Numerals.{sub-one}
 use native.Mathlib.Omega.{arith}
+use native.Mathlib.Nat.{eq-or-lt-of-le}
 use mathlib.Core.Path.{_≡_, refl, ap, _∙_}
+use mathlib.Core.Logic.{⊎-elim}
 use mathlib.Core.List.{List, [], append-nil}
 use lib.ListN.{length, length-append}
 use Rattle.model.specs.Lists.{joinTo, mixTo}
@@ -83,6 +85,9 @@ module _ (w : List ℕ) (count h n : ℕ) where
 
   pub edge-stop : (i m : ℕ) (u : Walk) → i < m → Said (edgesTask w count h n i) u Bad → Said (edgesTask w count h n m) u Bad
   edge-stop = edge-refused (children w count h n) (keyAt w n) (nodesTo w h n) more
+
+  pub edge-stop-to : (i m : ℕ) (u : Walk) → i ≤ m → Said (edgesTask w count h n i) u Bad → Said (edgesTask w count h n m) u Bad
+  edge-stop-to i m u l q = ⊎-elim (λ e. rw e at q) (λ v. edge-stop i m u v q) (eq-or-lt-of-le l)
 
   pub key-stop : (i m : ℕ) (u : Walk) → i < m → Said (edgeSteps (i + 1)) u Bad → Said (edgesTask w count h n m) u Bad
   key-stop = key-refused (children w count h n) (keyAt w n) (nodesTo w h n) more

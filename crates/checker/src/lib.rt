@@ -3,10 +3,12 @@
 use inspect::Last;
 use inspect::Visit;
 use inspect::above;
+use inspect::ascents;
 use inspect::chain;
 use inspect::lead;
 use inspect::marked;
 use inspect::own;
+use inspect::own_leaf;
 use model::Answer;
 use node::COUNT;
 use node::FIRST_FREE;
@@ -30,7 +32,7 @@ use node::len;
 ghost use mathlib.Core.Path.{_≡_};
 ghost use Prim.Native.Nat.{_<_, _≤_};
 ghost use lib.ListN.{length};
-ghost use Rattle.model.specs.Layout.{Sized, most};
+ghost use Rattle.model.specs.Layout.{Sized, least, most};
 ghost use Rattle.model.specs.WellFormed.{WellFormed, rootFewest};
 ghost use Rattle.model.specs.Public.{Promised};
 ghost use Rattle.model.specs.Public as promise;
@@ -74,7 +76,7 @@ fn pass_key(w: Walk, key: u64) -> Checked
     })
 }
 
-// The n keys of a leaf.
+// The n keys of a root that is a leaf.
 fn check_keys(a: &[u64], node: NodeNo, n: usize, before: Walk) -> Checked
     requires { ⌜ Within (now a) (node .0) × (n ≤ most) ⌝ }
     ensures { λ r. ⌜ Said (keysTask (now (a .entry)) (node .0) n) before r ⌝ }
@@ -107,6 +109,63 @@ fn child(a: &[u64], node: NodeNo, at: Place, below: usize) -> Visit
     }
 }
 
+// A leaf that is not the root, with no turns by its length: the words not in use are 0, and nothing is below 0, so that all ascents lie among its
+// keys. They rise strictly when there is one ascent less than there are keys.
+fn check_leaf(a: &[u64], count: usize, v: Visit, before: Walk) -> Checked
+    requires { ⌜ Sized count (length (now a)) × (v .below ≡ 0) × (v .fewest ≡ least) ⌝ }
+    ensures { λ r. ⌜ Said (nodeTask (now (a .entry)) count (reached v)) before r ⌝ }
+{
+    let last = before.last;
+    if before.nodes == 0 {
+        return Checked::Bad;
+    }
+    if !own_leaf(a, count, v) {
+        return Checked::Bad;
+    }
+    let node = v.node;
+    let n = len(a, node);
+    if before.pairs < n {
+        return Checked::Bad;
+    }
+    if !above(last, key(a, node, Place(0))) {
+        return Checked::Bad;
+    }
+    if ascents(a, node) + 1 != n {
+        return Checked::Bad;
+    }
+    Checked::Good(Walk {
+        nodes: before.nodes - 1,
+        pairs: before.pairs - n,
+        last: Last::After(key(a, node, Place(n - 1))),
+    })
+}
+
+// The leaves that a node's edges lead to; the keys stand between them.
+fn check_leaves(a: &[u64], count: usize, node: NodeNo, n: usize, before: Walk) -> Checked
+    requires { ⌜ Sized count (length (now a)) × (node .0 < count) × (n ≤ most) ⌝ }
+    ensures { λ r. ⌜ Said (edgesTask (now (a .entry)) count 0 (node .0) n) before r ⌝ }
+{
+    let mut w = before;
+    let mut i = 0;
+    loop {
+        match check_leaf(a, count, child(a, node, Place(i), 0), w) {
+            Checked::Bad => return Checked::Bad,
+            Checked::Good(v) => {
+                if i == n {
+                    return Checked::Good(v);
+                }
+                match pass_key(v, key(a, node, Place(i))) {
+                    Checked::Bad => return Checked::Bad,
+                    Checked::Good(u) => {
+                        w = u;
+                    }
+                }
+            }
+        }
+        i += 1;
+    }
+}
+
 // A node is sound when its edges are.
 fn check_node(a: &[u64], count: usize, v: Visit, before: Walk) -> Checked
     requires { ⌜ Sized count (length (now a)) ⌝ }
@@ -131,6 +190,9 @@ fn check_node(a: &[u64], count: usize, v: Visit, before: Walk) -> Checked
     }
     if !lead(a, count, node, n) {
         return Checked::Bad;
+    }
+    if v.below == 1 {
+        return check_leaves(a, count, node, n, w);
     }
     check_edges(a, count, node, n, v.below - 1, w)
 }

@@ -6,14 +6,15 @@ use mathlib.Core.Logic.{_⊎_, inl, inr, _≢_}
 use mathlib.Core.List.{List, [], _∷_, _++_}
 use native.Mathlib.Decide.{decLt}
 use native.Mathlib.Omega.{arith}
-use lib.ListN.{length, take, drop, set, replicate, length-set, length-append, length-drop, length-replicate}
+use lib.ListN.{length, take, drop, getD, set, replicate, length-set, length-append, length-drop, length-replicate}
 use lib.Seq.{drop-at, getD-set-same, getD-set-other, set-set, set-comm, length-take-le}
 use Rattle.model.specs.Lists.{part, pad, insertAt}
-use Rattle.model.specs.Layout.{base, blank}
+use Rattle.model.specs.Layout.{most, base, blank}
 use Rattle.slices.specs.Words.{splice, removeAt, moved}
 use Rattle.slices.proofs.Laws.{lent-out, lent-as, insert-length, remove-length, set-splice}
 use Rattle.node.specs.Fields.{Fields, fieldsOf, Column, keyColumn, valColumn, edgeColumn, startOf, roomOf, column, withColumn, row, Stored}
 use Rattle.node.proofs.Pad.{pad-set, pad-all, pad-insert, pad-remove, pad-shl, pad-shr, pad-cut, pad-part, pad-lay, pad-append, pad-uncover, pad-rest}
+use Rattle.columns.proofs.Turns.{pad-opened, pad-closed, pad-word}
 use Rattle.node.proofs.Fields.{stored-part, stored-splice, stored-length, room-in}
 use Rattle.columns.specs.Columns.{In, putColumn, putColumns}
 
@@ -27,6 +28,12 @@ apart n m d = go (decLt n m)
         more : Dec (m < n) → m < n
         more (yes h) = h
         more (no e) = absurd (d (omega arith))
+
+-- every column has room for a word of each pair
+pub room-most : (k : Column) → most ≤ roomOf k
+room-most keyColumn = omega arith
+room-most valColumn = omega arith
+room-most edgeColumn = omega arith
 
 module _ {w h : List ℕ} {fs : List Fields} (a : Stored w h fs) (k : Column) where
   -- the first m words of a column, lent, have come back as f of them
@@ -70,6 +77,28 @@ module _ {w h : List ℕ} {fs : List Fields} (a : Stored w h fs) (k : Column) wh
         let f = a .fits n (x .node) k in
         let g = remove-length (column k (row fs n)) i (omega arith) in
         column-lent n count s e p (λ (t : List ℕ). removeAt t i ++ 0 ∷ []) (removeAt (column k (row fs n)) i) (x .node) here d (omega arith) (omega arith) q (pad-remove (roomOf k) (column k (row fs n)) i count l (omega arith) o)
+
+    -- all words that a column can hold, lent
+    pub column-opened : (e m i v : ℕ) (p : List ℕ) → e ≡ s + m → m ≤ roomOf k → count < m → i ≤ count → p ≡ take (length (take (e - s) (drop s w))) (insertAt (take (e - s) (drop s w)) i v) → Stored (take s w ++ (p ++ drop (e - s) (drop s w))) h (putColumn fs n k (insertAt (column k (row fs n)) i v))
+    column-opened e m i v p d r u o q =
+        let l = x .count-is in
+        column-lent n m s e p (λ (t : List ℕ). take (length t) (insertAt t i v)) (insertAt (column k (row fs n)) i v) (x .node) here d r
+        (rw (insert-length (column k (row fs n)) i v (omega arith)) (omega arith))
+        q
+        (pad-opened (roomOf k) (column k (row fs n)) i m r v (omega arith) (omega arith))
+
+    pub column-closed : (e m i : ℕ) (p : List ℕ) → e ≡ s + m → m ≤ roomOf k → count ≤ m → i < count → p ≡ removeAt (take (e - s) (drop s w)) i ++ 0 ∷ [] → Stored (take s w ++ (p ++ drop (e - s) (drop s w))) h (putColumn fs n k (removeAt (column k (row fs n)) i))
+    column-closed e m i p d r u o q =
+        let l = x .count-is in
+        let g = remove-length (column k (row fs n)) i (omega arith) in
+        column-lent n m s e p (λ (t : List ℕ). removeAt t i ++ 0 ∷ []) (removeAt (column k (row fs n)) i) (x .node) here d r (omega arith) q (pad-closed (roomOf k) (column k (row fs n)) i m r (omega arith) (omega arith))
+
+    -- a word of a column, lent
+    pub column-word : (e m i : ℕ) → e ≡ s + m → m ≤ roomOf k → i < m → getD (take (e - s) (drop s w)) i 0 ≡ getD (column k (row fs n)) i 0
+    column-word e m i d r u =
+        let b : s ≡ base n + (startOf k + 0) = omega (arith, here) in
+        let z : part w s m ≡ part (pad (roomOf k) (column k (row fs n))) 0 m = rw b (stored-part a k n 0 m (x .node) (omega arith)) in
+        ap (λ (t : List ℕ). getD t i 0) (lent-out w s e m d ∙ z) ∙ pad-word (roomOf k) (column k (row fs n)) m i u
 
     -- the words in use, lent
     pub column-out : (e : ℕ) → e ≡ s + count → take (e - s) (drop s w) ≡ column k (row fs n)

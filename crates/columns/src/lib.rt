@@ -1,4 +1,5 @@
 // Moves of words in the columns of nodes: one function for keys, values and edges.
+use node::CAPACITY;
 use node::LEN;
 use node::NodeNo;
 use node::node_base;
@@ -9,11 +10,11 @@ use slices::slice_shl;
 use slices::slice_shr;
 ghost use mathlib.Core.Path.{_≡_};
 ghost use mathlib.Core.Logic.{_≢_};
-ghost use mathlib.Core.List.{List, _++_};
+ghost use mathlib.Core.List.{List, [], _∷_, _++_};
 ghost use Prim.Native.Nat.{ℕ, _+_, _<_, _≤_};
 ghost use lib.ListN.{length, take, drop, getD, set};
 ghost use Rattle.model.specs.Lists.{insertAt};
-ghost use Rattle.model.specs.Layout.{nodeSize};
+ghost use Rattle.model.specs.Layout.{nodeSize, most};
 ghost use Rattle.slices.specs.Words.{removeAt};
 ghost use Rattle.node.specs.Fields.{Fields, Column, startOf, roomOf, column, row, Stored};
 ghost use Rattle.node.specs.Reading.{Within};
@@ -58,6 +59,62 @@ pub fn remove_word(a: &mut [u64], n: NodeNo, col: usize, count: usize, at: usize
     let s = node_base(n) + col;
     let e = s + count;
     slice_remove(&mut a[s..e], at)
+}
+
+// Puts a word in at a place of a column of eleven words that has room for one more, in a fixed number of turns.
+pub fn open_word(a: &mut [u64], n: NodeNo, col: usize, at: usize, x: u64)
+    requires { ⌜ Within (now a) (n .0) × (col + most ≤ nodeSize) × (at < most) ⌝ }
+    ensures { λ _. ⌜ ((h : List ℕ) (fs : List Fields) (k : Column) (count : ℕ) → In fs (n .0) k col count → count < most → at ≤ count → Stored (now (a .entry)) h fs → Stored (now (a .exit)) h (putColumn fs (n .0) k (insertAt (column k (row fs (n .0))) at x))) ⌝ }
+{
+    let s = node_base(n) + col;
+    let e = s + CAPACITY;
+    open_words(&mut a[s..e], at, x);
+}
+
+// Takes the word at a place out of a column of eleven words, in a fixed number of turns.
+pub fn close_word(a: &mut [u64], n: NodeNo, col: usize, at: usize) -> u64
+    requires { ⌜ Within (now a) (n .0) × (col + most ≤ nodeSize) × (at < most) ⌝ }
+    ensures { λ r. ⌜ ((h : List ℕ) (fs : List Fields) (k : Column) (count : ℕ) → In fs (n .0) k col count → count ≤ most → at < count → Stored (now (a .entry)) h fs → (r ≡ getD (column k (row fs (n .0))) at 0) × Stored (now (a .exit)) h (putColumn fs (n .0) k (removeAt (column k (row fs (n .0))) at))) ⌝ }
+{
+    let s = node_base(n) + col;
+    let e = s + CAPACITY;
+    close_words(&mut a[s..e], at)
+}
+
+// As slice_insert, of eleven words: each is written, from the last on.
+fn open_words(s: &mut [u64], at: usize, x: u64)
+    requires { ⌜ (length (now s) ≡ most) × (at < most) ⌝ }
+    ensures { λ _. ⌜ now (s .exit) ≡ take (length (now (s .entry))) (insertAt (now (s .entry)) at x) ⌝ }
+{
+    let mut j = CAPACITY - 1;
+    while 0 < j {
+        let mut t = s[j];
+        if at < j {
+            t = s[j - 1];
+        }
+        s[j] = t;
+        j -= 1;
+    }
+    s[at] = x;
+}
+
+// As slice_remove, of eleven words: each is written, from the first on.
+fn close_words(s: &mut [u64], at: usize) -> u64
+    requires { ⌜ (length (now s) ≡ most) × (at < most) ⌝ }
+    ensures { λ r. ⌜ (r ≡ getD (now (s .entry)) at 0) × (now (s .exit) ≡ removeAt (now (s .entry)) at ++ 0 ∷ []) ⌝ }
+{
+    let x = s[at];
+    let mut j = 0;
+    while j < CAPACITY - 1 {
+        let mut t = s[j];
+        if at <= j {
+            t = s[j + 1];
+        }
+        s[j] = t;
+        j += 1;
+    }
+    s[CAPACITY - 1] = 0;
+    x
 }
 
 // Moves the last `count` words of the left node's column, from a place on, before those of the right node's, which has `len`.

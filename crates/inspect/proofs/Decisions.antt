@@ -53,3 +53,11 @@ at-most x y = go (leb x y) refl
     go : (t : Bool) → leb x y ≡ t → Decides t (x ≤ y)
     go true e = leb-true x y e
     go false e = λ l. let m = leb-false x y e in omega arith
+
+-- one of two numbers is below the other, or not
+pub apart : (x y : ℕ) {P : Type 0} → (x < y → P) → (y ≤ x → P) → P
+apart x y {P} f g = go (ltb x y) refl
+  where
+    go : (t : Bool) → ltb x y ≡ t → P
+    go true e = f (ltb-true x y e)
+    go false e = g (ltb-false x y e)

@@ -8,10 +8,21 @@ use mathlib.Core.Path.{_≡_, refl}
 use mathlib.Core.Logic.{⊎-elim}
 use mathlib.Core.List.{List}
 use lib.ListN.{getD}
-use Rattle.model.specs.Layout.{none, internal, base, wordAt, parentWord}
+use lib.Bits.{bitOr, bitAnd, or-add-and, and-le-l, and-le-r}
+use Rattle.model.specs.Layout.{none, leaf, internal, most, nodeSize, base, wordAt, parentWord, keysWord, valuesWord, edgesWord}
 use Rattle.model.specs.Words.{kind}
-use Rattle.model.specs.WellFormed.{Zeros, edgesUsed}
+use Rattle.model.specs.WellFormed.{Reached, Zeros, UnusedZero, lengthAt, edgesUsed}
 use Rattle.model.specs.Shape.{OwnFree, Chain}
+use Rattle.inspect.specs.Tests.{RestZero}
+
+pub or-left : (x y : ℕ) → bitOr x y ≡ 0 → x ≡ 0
+or-left x y e = omega (arith, e, or-add-and x y, and-le-r x y)
+
+pub or-right : (x y : ℕ) → bitOr x y ≡ 0 → y ≡ 0
+or-right x y e = omega (arith, e, or-add-and x y, and-le-l x y)
+
+pub or-both : (x y : ℕ) → x ≡ 0 → y ≡ 0 → bitOr x y ≡ 0
+or-both x y e f = rw (e, f) refl
 
 -- the words from b + f up to b + t are 0
 abbrev pub Clear : List ℕ → ℕ → ℕ → ℕ → Type 0
@@ -31,6 +42,10 @@ clear-zeros w n f t e z = rw e at z
 pub kind-inner : (h : ℕ) → (h ≡ 0 → ⊥) → internal ≡ kind h
 kind-inner zero z = absurd (z refl)
 kind-inner (suc h) z = refl
+
+pub kind-leaf : (h : ℕ) → h ≡ 0 → kind h ≡ leaf
+kind-leaf zero z = refl
+kind-leaf (suc h) z = absurd (omega arith)
 
 pub used-inner : (h n : ℕ) → (h ≡ 0 → ⊥) → n + 1 ≡ edgesUsed h n
 used-inner zero n z = absurd (z refl)
@@ -60,3 +75,40 @@ module _ (w : List ℕ) (count : ℕ) where
 pub used-most : (h n : ℕ) → edgesUsed h n ≤ n + 1
 used-most zero n = omega arith
 used-most (suc h) n = omega arith
+
+-- ---- the words for pairs that are not in use
+
+-- the words for the pairs from f up to t are 0
+abbrev pub Bare : List ℕ → ℕ → ℕ → ℕ → Type 0
+Bare w b f t = (i : ℕ) → f ≤ i → i < t → (getD w (b + (keysWord + i)) 0 ≡ 0) × (getD w (b + (valuesWord + i)) 0 ≡ 0)
+
+pub rest-bare : {b : ℕ} (w : List ℕ) (n m : ℕ) → b ≡ base n → RestZero w n m → Bare w b m most
+unfolding Zeros wordAt
+rest-bare w n m e z i l u = rw e (z .keys (keysWord + i) (omega arith) (omega arith), z .values (valuesWord + i) (omega arith) (omega arith))
+
+pub bare-rest : {b : ℕ} (w : List ℕ) (n m : ℕ) → b ≡ base n → Bare w b m most → RestZero w n m
+unfolding Zeros wordAt
+bare-rest w n m e z = record {
+  keys = λ k l u. let d : keysWord + (k - keysWord) ≡ k = omega arith in rw (e, d) at (z (k - keysWord) (omega arith) (omega arith) .0);
+  values = λ k l u. let d : valuesWord + (k - valuesWord) ≡ k = omega arith in rw (e, d) at (z (k - valuesWord) (omega arith) (omega arith) .1);
+}
+
+used-leaf : (h n : ℕ) → h ≡ 0 → edgesUsed h n ≡ 0
+used-leaf zero n z = refl
+used-leaf (suc h) n z = absurd (omega arith)
+
+module _ (w : List ℕ) (r : Reached) (m : ℕ) (low : r .below ≡ 0) (long : m ≡ lengthAt w (r .node)) where
+  pub leaf-unused : Zeros w (r .node) edgesWord nodeSize → RestZero w (r .node) m → UnusedZero w r
+  unfolding Zeros
+  leaf-unused z s = record {
+    keys-rest = rw long at (s .keys);
+    values-rest = rw long at (s .values);
+    edges-rest = λ k l u. z k (omega (arith, l, used-leaf (r .below) (lengthAt w (r .node)) low)) u;
+  }
+
+  pub unused-rest : UnusedZero w r → RestZero w (r .node) m
+  unused-rest u = record { keys = rw long (u .keys-rest); values = rw long (u .values-rest) }
+
+  pub unused-edges : UnusedZero w r → Zeros w (r .node) edgesWord nodeSize
+  unfolding Zeros
+  unused-edges u k l t = u .edges-rest k (omega (arith, l, used-leaf (r .below) (lengthAt w (r .node)) low)) t

@@ -1,11 +1,12 @@
 -- What the tests decide, beside what the model says of the words.
 -- Assumes nothing.
-use Prim.Native.Nat.{ℕ, _≤_, _<_}
+use Prim.Native.Nat.{ℕ, zero, suc, _+_, _≤_, _<_}
 use mathlib.Core.Path.{_≡_}
 use mathlib.Core.Bool.{Bool, true, false}
 use mathlib.Core.List.{List}
-use Rattle.model.specs.Layout.{wordAt, parentWord}
-use Rattle.model.specs.WellFormed.{Reached, edgeAt}
+use lib.Dec.{ltb}
+use Rattle.model.specs.Layout.{wordAt, parentWord, keysWord, valuesWord, edgesWord}
+use Rattle.model.specs.WellFormed.{Reached, Zeros, edgeAt}
 use Rattle.inspect.specs.declared.Visit.{Visit}
 use Rattle.inspect.specs.declared.Last.{Last}
 use Rattle.inspect.specs.declared.Last.the-variants.{Start, After}
@@ -17,6 +18,11 @@ Decides false P = P → ⊥
 
 abbrev pub reached : Visit → Reached
 reached v = record { below = v .below; fewest = v .fewest; node = v .node .0; parent = v .parent; place = v .place .0 }
+
+-- the words for keys and values that node n does not use, with m pairs, are 0
+pub record RestZero (w : List ℕ) (n m : ℕ) : Type 0 where
+  pub keys : Zeros w n (keysWord + m) valuesWord
+  pub values : Zeros w n (valuesWord + m) edgesWord
 
 -- edge i of node n leads to a node whose parent that is
 pub record Leads (w : List ℕ) (count n i : ℕ) : Type 0 where
@@ -32,3 +38,20 @@ Above (After x) k = x < k
 abbrev pub Marked : ℕ → ℕ → Last → Type 0
 Marked seen mark Start = (seen ≤ 1) × (seen ≡ 0 → mark ≡ 0)
 Marked seen mark (After k) = (seen ≡ 1) × (k ≤ mark)
+
+-- 1 where y is above x
+abbrev pub rise : ℕ → ℕ → ℕ
+rise x y =
+    elim (ltb x y) [
+      | true ↦ 1
+      | false ↦ 0
+    ]
+
+-- how many of the first m numbers are below the next one
+unfoldable pub ups : (ℕ → ℕ) → ℕ → ℕ
+ups k zero = 0
+ups k (suc m) = ups k m + rise (k m) (k (suc m))
+
+-- from each word for a key to the next one
+abbrev pub steps : ℕ
+steps = 10

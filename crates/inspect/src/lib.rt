@@ -4,6 +4,7 @@ use node::EDGES;
 use node::INTERNAL;
 use node::KEYS;
 use node::LEAF;
+use node::MIN_LEN;
 use node::NONE;
 use node::NodeNo;
 use node::PARENT;
@@ -13,6 +14,7 @@ use node::STATE;
 use node::VALS;
 use node::WORDS;
 use node::edge;
+use node::key;
 use node::len;
 use node::node_base;
 use node::parent;
@@ -21,12 +23,15 @@ use node::state;
 ghost use mathlib.Core.Path.{_≡_};
 ghost use Prim.Native.Nat.{ℕ, _+_, _≤_, _<_};
 ghost use lib.ListN.{length};
-ghost use Rattle.model.specs.Layout.{Sized, most, nodeSize};
+ghost use Rattle.model.specs.Layout.{Sized, least, most, nodeSize};
 ghost use Rattle.model.specs.Words.{kind};
-ghost use Rattle.model.specs.WellFormed.{UnusedZero, FreeZero, Linked, Zeros, lengthAt, edgesUsed};
+ghost use Rattle.model.specs.WellFormed.{UnusedZero, FreeZero, Linked, Zeros, lengthAt, keyAt, edgesUsed};
 ghost use Rattle.model.specs.Shape.{Own, Chain};
 ghost use Rattle.node.specs.Reading.{Within};
-ghost use Rattle.inspect.specs.Tests.{Decides, Leads, Above, Marked, reached};
+ghost use Rattle.inspect.specs.Tests.{Decides, RestZero, Leads, Above, Marked, reached, rise, ups, steps};
+
+// From each word for a key to the next one.
+const STEPS: usize = 10;
 
 // A node that an edge leads to: the levels below it, the fewest pairs it may hold, its number, the node and the edge that lead there.
 pub struct Visit {
@@ -54,6 +59,28 @@ fn zeros(a: &[u64], n: NodeNo, from: usize, to: usize) -> bool
     while k < to {
         all = all | a[b + k];
         k += 1;
+    }
+    all == 0
+}
+
+// A word where it is not in use, and 0 where it is.
+fn kept(x: u64, k: usize, from: usize) -> u64
+    ensures { λ r. ⌜ (from ≤ k → r ≡ x) × (k < from → r ≡ 0) ⌝ }
+{
+    if k < from { 0 } else { x }
+}
+
+// Whether the words for keys and values that a node of n pairs, 5 or more, does not use are 0. The turns are as many whatever n is.
+fn rest_zero(a: &[u64], node: NodeNo, n: usize) -> bool
+    requires { ⌜ Within (now a) (node .0) × (least ≤ n) ⌝ }
+    ensures { λ r. ⌜ Decides r (RestZero (now (a .entry)) (node .0) n) ⌝ }
+{
+    let b = node_base(node);
+    let mut all = 0;
+    let mut i = MIN_LEN;
+    while i < CAPACITY {
+        all = all | kept(a[b + (KEYS + i)] | a[b + (VALS + i)], i, n);
+        i += 1;
     }
     all == 0
 }
@@ -129,6 +156,34 @@ pub fn own(a: &[u64], count: usize, v: Visit) -> bool
     unused(a, v, n)
 }
 
+// The same of a leaf that is not the root.
+pub fn own_leaf(a: &[u64], count: usize, v: Visit) -> bool
+    requires { ⌜ Sized count (length (now a)) × (v .below ≡ 0) × (v .fewest ≡ least) ⌝ }
+    ensures { λ r. ⌜ Decides r (Own (now (a .entry)) count (reached v)) ⌝ }
+{
+    let node = v.node;
+    if node.0 >= count {
+        return false;
+    }
+    if state(a, node) != LEAF {
+        return false;
+    }
+    let n = len(a, node);
+    if n < MIN_LEN {
+        return false;
+    }
+    if n > CAPACITY {
+        return false;
+    }
+    if !linked(a, v) {
+        return false;
+    }
+    if !zeros(a, node, EDGES, WORDS) {
+        return false;
+    }
+    rest_zero(a, node, n)
+}
+
 // Whether all edges of a node of n pairs lead to nodes whose parent it is. This is looked at before any of them is followed, so that the
 // reads of the children overlap.
 pub fn lead(a: &[u64], count: usize, node: NodeNo, n: usize) -> bool
@@ -194,6 +249,30 @@ pub fn above(last: Last, key: u64) -> bool
         Last::Start => true,
         Last::After(k) => k < key,
     }
+}
+
+// 1 where the second is above the first.
+fn up(x: u64, y: u64) -> usize
+    ensures { λ r. ⌜ r ≡ rise x y ⌝ }
+{
+    if x < y { 1 } else { 0 }
+}
+
+// How many of the words for keys, but the last, are below the next one.
+pub fn ascents(a: &[u64], n: NodeNo) -> usize
+    requires { ⌜ Within (now a) (n .0) ⌝ }
+    ensures { λ r. ⌜ r ≡ ups (keyAt (now (a .entry)) (n .0)) steps ⌝ }
+{
+    let mut low = key(a, n, Place(0));
+    let mut m = 0;
+    let mut i = 0;
+    while i < STEPS {
+        let high = key(a, n, Place(i + 1));
+        m += up(low, high);
+        low = high;
+        i += 1;
+    }
+    m
 }
 
 // Whether mark seen and mark suit the last of all keys.

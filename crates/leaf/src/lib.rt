@@ -1,8 +1,8 @@
 // The pairs of nodes: of a leaf, or those of an internal node without its edges.
-use columns::insert_word;
+use columns::close_word;
 use columns::move_first;
 use columns::move_last;
-use columns::remove_word;
+use columns::open_word;
 use columns::replace_word;
 use columns::set_len;
 use node::KEYS;
@@ -36,8 +36,8 @@ pub fn insert_fit(a: &mut [u64], n: NodeNo, at: Place, kv: Kv)
 {
     let count = len(a, n);
     let i = at.0;
-    insert_word(a, n, KEYS, count, i, kv.0);
-    insert_word(a, n, VALS, count, i, kv.1);
+    open_word(a, n, KEYS, i, kv.0);
+    open_word(a, n, VALS, i, kv.1);
     set_len(a, n, count + 1);
 }
 
@@ -79,8 +79,8 @@ pub fn remove(a: &mut [u64], n: NodeNo, at: Place) -> Kv
 {
     let count = len(a, n);
     let i = at.0;
-    let key = remove_word(a, n, KEYS, count, i);
-    let val = remove_word(a, n, VALS, count, i);
+    let key = close_word(a, n, KEYS, i);
+    let val = close_word(a, n, VALS, i);
     set_len(a, n, count - 1);
     Kv(key, val)
 }

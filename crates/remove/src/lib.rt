@@ -6,18 +6,22 @@ use model::Answer;
 use navigate::next_back_leaf_edge;
 use node::HEIGHT;
 use node::Kv;
+use node::NodeNo;
 use node::PAIRS;
 use node::Place;
 use node::key;
+use node::len;
 use search::Handle;
 use search::SearchResult;
 use search::search_tree;
+ghost use mathlib.Core.Bool.{true};
 ghost use mathlib.Core.Path.{_≡_};
-ghost use Prim.Native.Nat.{_≤_};
+ghost use Prim.Native.Nat.{_+_, _≤_, _<_};
+ghost use Rattle.model.specs.Layout.{most, wordAt, lengthWord, keysWord};
 ghost use Rattle.model.specs.State as model;
 ghost use Rattle.model.specs.WellFormed.{WellFormed};
 ghost use Rattle.model.specs.Promise.{Holds, Does};
-ghost use Rattle.node.specs.Reading.{pairOf};
+ghost use Rattle.node.specs.Reading.{Within, pairOf};
 ghost use Rattle.navigate.specs.Places.{In, KvAt};
 ghost use Rattle.remove.specs.Removals.{LeafKv, without, InnerKv, removed};
 
@@ -61,13 +65,30 @@ pub fn remove_internal_kv(a: &mut [u64], kv: Handle) -> Kv
             at: Place(i.0 - 1),
         },
     );
-    // The node may have been merged or lent pairs: the pair is found again.
+    if has_key(a, node, at, k) {
+        return replace_kv(a, node, at, left_kv);
+    }
+    // The node was merged or lent pairs: the pair is found again.
     let SearchResult::Found(internal) = search_tree(a, k) else {
         return left_kv;
     };
     let n = internal.node;
     let p = internal.at;
     replace_kv(a, n, p, left_kv)
+}
+
+// Whether a node has a key at a place.
+fn has_key(a: &[u64], n: NodeNo, at: Place, k: u64) -> bool
+    requires { ⌜ Within (now a) (n .0) × (at .0 < most) ⌝ }
+    ensures { λ r. ⌜ (r ≡ true → (at .0 < wordAt (now (a .entry)) (n .0) lengthWord) × (wordAt (now (a .entry)) (n .0) (keysWord + at .0) ≡ k)) ⌝ }
+{
+    if len(a, n) <= at.0 {
+        return false;
+    }
+    if key(a, n, at) == k {
+        return true;
+    }
+    false
 }
 
 // Takes a pair out of any node.

@@ -4,11 +4,12 @@ use Prim.Native.Nat.{ℕ, zero, suc, _+_, _-_, _≤_, _<_}
 use native.Mathlib.Numerals.{sub-one}
 use native.Mathlib.Omega.{arith}
 use mathlib.Core.Path.{_≡_, refl, sym, ap, _∙_, subst}
-use mathlib.Core.List.{List, []}
+use mathlib.Core.List.{List, [], _∷_}
 use lib.ListN.{length, drop, length-map}
-use Rattle.model.specs.Lists.{part}
+use Rattle.model.specs.Lists.{part, Rises}
 use Rattle.model.specs.Layout.{most, base, nodeSize, wordAt, lengthWord, keysWord, edgesWord}
-use Rattle.model.specs.Tree.{Item, Tree, Ctx}
+use Rattle.model.specs.Tree.{Item, Tree, Ctx, top, under, Whole, flatOf}
+use Rattle.model.specs.Map.{Rising}
 use Rattle.model.specs.Search.{at, seek, search}
 use Rattle.model.specs.declared.SearchBound.{SearchBound}
 use Rattle.model.specs.declared.Range.{Range}
@@ -18,7 +19,8 @@ use Rattle.model.specs.WellFormed.{WellFormed}
 use Rattle.model.specs.Promise.{Holds}
 use Rattle.model.proofs.Decode.{stateOf}
 use Rattle.model.proofs.Forward.{forward}
-use Rattle.model.proofs.Forks.{downAt, open-length, seek-kv, seek-edge, lower-inside, lowAt, highAt, boundsAt, fork-here, fork-below}
+use Rattle.model.proofs.Sizes.{Len, RootLen, FullWhole, of-full, fits-node, unplug-full}
+use Rattle.model.proofs.Forks.{Ascends, node-ascends, downAt, open-length, seek-kv, seek-edge, lower-inside, lowAt, highAt, boundsAt, fork-here, fork-below}
 use Rattle.model.proofs.Standing.{At, stands, below-at, length-at, short-at, keys-at}
 use Rattle.search.specs.declared.SearchResult.{SearchResult}
 use Rattle.search.specs.declared.SearchResult.the-variants.{Found, GoDown}
@@ -30,6 +32,16 @@ use Rattle.search.proofs.Indexes.{indexFrom}
 -- the header is there
 pub header-in : {w : List ℕ} → WellFormed w → (i : ℕ) → i < 10 → i < length w
 header-in f i l = omega (arith, f .sized .long-is)
+
+rises : (ks : List ℕ) → Ascends ks → Rises ks
+rises [] a = tt
+rises (k ∷ ks) a = (a .0, rises ks (a .1))
+
+-- a node with no pairs has no levels below it
+none-low : (h : ℕ) (c : Ctx (suc h)) (n : ℕ) → Len c n → n ≡ 0 → h ≡ 0
+none-low zero c n l e = refl
+none-low (suc h) top n l e = absurd (omega (arith, l .0))
+none-low (suc h) (under f c) n l e = absurd (omega (arith, l .0))
 
 -- ---- the node that a descent has come to
 
@@ -46,6 +58,15 @@ module _ {w : List ℕ} {s : State} (o : Holds w s) {n h : ℕ} (p : At s n h) w
 
     pub keys-few : length ks ≤ most
     keys-few = omega (arith, keys-many, short-at (stands o p))
+
+    pub keys-rise : Rises ks
+    keys-rise = rw keys-are (rises (keysOf (p .tree .rest)) (node-ascends (p .ctx) (p .tree) (subst (λ (x : Whole). Rising (flatOf x)) (sym (p .whole)) (o .sound .rising))))
+
+    -- only a leaf has none: the root
+    pub keys-none : length ks ≡ 0 → h ≡ 0
+    keys-none e =
+        let f : FullWhole (s .whole) = of-full (s .whole .height) (s .whole .root) (o .sound .full) in
+        none-low h (p .ctx) (length (p .tree .rest)) ((fits-node RootLen (p .ctx) (p .tree) ((unplug-full (p .ctx) (p .tree) (subst FullWhole (sym (p .whole)) f)) .1)) .0) (sym keys-many ∙ e)
 
 -- the leaf edge i of a leaf
 pub leaf-at : {s : State} {n : ℕ} (p : At s n 0) (i : ℕ) → i ≤ length (p .tree .rest) → leafEdge (downAt (p .ctx) (p .tree) i) ≡ handle n 0 i

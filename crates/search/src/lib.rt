@@ -7,14 +7,17 @@ use node::Place;
 use node::ROOT;
 use node::edge;
 use node::keys;
+use node::node_base;
 ghost use mathlib.Core.Path.{_≡_};
 ghost use Prim.Native.Nat.{_≤_};
 ghost use lib.ListN.{length, drop};
 ghost use Rattle.model.specs.Search as model;
 ghost use Rattle.model.specs.Range.{keyIndex, lowerEdge, upperEdge, forkOf};
 ghost use Rattle.model.specs.State.{State};
+ghost use Rattle.model.specs.Lists.{Rises};
 ghost use Rattle.model.specs.WellFormed.{WellFormed};
 ghost use Rattle.model.specs.Promise.{Holds};
+ghost use Rattle.node.specs.Reading.{Within};
 ghost use Rattle.search.specs.Results.{spotted, indexed, edged, forked};
 
 // A pair's or an edge's place: its node, the levels below that, and the place in it.
@@ -66,20 +69,48 @@ pub fn search_tree(a: &[u64], key: u64) -> SearchResult
     'levels: loop {
         let part = keys(a, node);
         let n = part.len();
+        if n == 0 {
+            break SearchResult::GoDown(Handle {
+                node,
+                height,
+                at: Place(0),
+            });
+        }
         let mut i = 0;
-        while i < n {
-            let k = part[i];
-            if key <= k {
-                if key == k {
-                    break 'levels SearchResult::Found(Handle {
-                        node,
-                        height,
-                        at: Place(i),
-                    });
-                }
-                break;
+        let mut k = part[n - 1];
+        if spread(a, node) == 18446744073709551615 {
+            k = part[0];
+        }
+        let mut size = n;
+        while 2 < size {
+            let rest = size / 2;
+            let half = size - rest;
+            let x = part[i + half - 1];
+            if x < key {
+                i += half;
+            } else {
+                k = x;
             }
-            i += 1;
+            size = rest;
+        }
+        let low = i;
+        let x = part[low];
+        let y = part[low + size - 1];
+        i = low + size;
+        if key <= y {
+            k = y;
+            i = low + size - 1;
+        }
+        if key <= x {
+            k = x;
+            i = low;
+        }
+        if k == key {
+            break SearchResult::Found(Handle {
+                node,
+                height,
+                at: Place(i),
+            });
         }
         if height == 0 {
             break SearchResult::GoDown(Handle {
@@ -91,6 +122,14 @@ pub fn search_tree(a: &[u64], key: u64) -> SearchResult
         node = edge(a, node, Place(i));
         height -= 1;
     }
+}
+
+// A word of each further cache line of a node: asked for at once, the lines come at once.
+fn spread(a: &[u64], n: NodeNo) -> u64
+    requires { ⌜ Within (now a) (n .0) ⌝ }
+{
+    let b = node_base(n);
+    a[b + 8] & a[b + 15] & a[b + 22] & a[b + 30]
 }
 
 // The highest node where the lower edge is smaller than the upper one, or the leaf edge where they coincide. The children's bounds
@@ -136,26 +175,48 @@ pub fn search_tree_for_bifurcation(a: &[u64], range: Range) -> Bifurcation
 
 // The place of a key among a node's keys, or the edge where it belongs, from a place on.
 pub fn find_key_index(keys: &[u64], key: u64, start: Place) -> IndexResult
-    requires { ⌜ start .0 ≤ length (now keys) ⌝ }
+    requires { ⌜ (start .0 ≤ length (now keys)) × Rises (now keys) ⌝ }
     ensures { λ r. ⌜ r ≡ indexed (keyIndex key (start .0) (drop (start .0) (now (keys .entry)))) ⌝ }
 {
     let n = keys.len();
     let mut i = start.0;
-    while i < n {
-        let x = keys[i];
-        if key <= x {
-            if key == x {
-                return IndexResult::Kv(Place(i));
-            }
-            return IndexResult::Edge(Place(i));
+    if i == n {
+        return IndexResult::Edge(start);
+    }
+    let mut k = keys[n - 1];
+    let mut size = n - i;
+    while 2 < size {
+        let rest = size / 2;
+        let half = size - rest;
+        let x = keys[i + half - 1];
+        if x < key {
+            i += half;
+        } else {
+            k = x;
         }
-        i += 1;
+        size = rest;
+    }
+    let low = i;
+    let x = keys[low];
+    let y = keys[low + size - 1];
+    i = low + size;
+    if key <= y {
+        k = y;
+        i = low + size - 1;
+    }
+    if key <= x {
+        k = x;
+        i = low;
+    }
+    if k == key {
+        return IndexResult::Kv(Place(i));
     }
     IndexResult::Edge(Place(i))
 }
 
 // The edge of a start bound in a node, and the bound for the child there.
 pub fn find_lower_bound_index(keys: &[u64], bound: SearchBound) -> BoundEdge
+    requires { ⌜ Rises (now keys) ⌝ }
     ensures { λ r. ⌜ r ≡ edged (lowerEdge bound (now (keys .entry))) ⌝ }
 {
     match bound {
@@ -186,7 +247,7 @@ pub fn find_lower_bound_index(keys: &[u64], bound: SearchBound) -> BoundEdge
 
 // The same of an end bound, from a place on.
 pub fn find_upper_bound_index(keys: &[u64], bound: SearchBound, start: Place) -> BoundEdge
-    requires { ⌜ start .0 ≤ length (now keys) ⌝ }
+    requires { ⌜ (start .0 ≤ length (now keys)) × Rises (now keys) ⌝ }
     ensures { λ r. ⌜ r ≡ edged (upperEdge bound (start .0) (now (keys .entry))) ⌝ }
 {
     match bound {

@@ -21,6 +21,7 @@ use Rattle.checker.proofs.check_node.Reads as check-node
 use Rattle.checker.proofs.check_node.Kinds as check-node-kinds
 use Rattle.checker.proofs.+check_edges+check_node.Lts-check_node as check-node-lts
 use Rattle.checker.proofs.check_keys.Reads as check-keys-reads
+use Rattle.checker.proofs.check_leaves.Reads as check-leaves-reads
 use Rattle.checker.proofs.child.Reads as child-reads
 use Rattle.checker.proofs.pass_key.Reads as pass-key-reads
 use Rattle.inspect.proofs.own.Reads as own-reads
@@ -74,6 +75,8 @@ node-claims t = (
   check-keys-reads.Learnt,
   lead-reads.Asked,
   lead-reads.Learnt,
+  check-leaves-reads.Asked,
+  check-leaves-reads.Learnt,
   check-edges-below t,
   check-edges.Post,
 )
@@ -214,18 +217,34 @@ check-node-returns-4 t c =
     refuted (c .before .lead .result) (c .before .lead .ensures) (c .if4 .taken)
     (shape-leads (x .a .now) (x .count) (r .below) (r .fewest) (r .node) (r .parent) (r .place) (c .before .before .before .before .len .result) (c .before .before .if3 .left) (c .before .before .before .before .len .ensures) (p .holds))
 
+check-node-check-leaves-requires : (t : ℕ) → check-node-lts.Need-check-leaves-requires (node-claims t) (check-node-at t) check-node.Post
+check-node-check-leaves-requires t c κs = let o = owned t (c .before .before .before .before .before .before .before .before .before) in search needs
+
+check-node-returns-5 : (t : ℕ) → check-node-lts.Need-returns-5 (node-claims t) (check-node-at t) check-node.Post
+check-node-returns-5 t c =
+    let o = c .before .before .before .before .before .before .before .before .before .before in
+    let x = o .before .before .before .before .before .args in
+    let r = reached (x .v) in
+    let n = c .before .before .before .before .before .before .before .len in
+    let z = c .before .before .before .before .before .if3 .left in
+    let e : r .below - 1 ≡ 0 = omega (arith, c .before .if5 .taken) in
+    inner-said (x .a .now) (x .count) (r .fewest) (r .node) (r .parent) (r .place) (x .before) _ (c .check-leaves .result) (r .below) (n .result) z (n .ensures)
+    (own-said (x .a .now) (x .count) r (x .before) (owned t o) (omega (arith, o .before .before .if1 .left))) (rw e (c .check-leaves .ensures))
+
 check-node-sub-check-edges-2 : (t : ℕ) → check-node-lts.Need-sub-check-edges-2 (node-claims t) (check-node-at t) check-node.Post
 check-node-sub-check-edges-2 t c = search needs
 
 check-node-check-edges-requires : (t : ℕ) → check-node-lts.Need-check-edges-requires (node-claims t) (check-node-at t) check-node.Post
-check-node-check-edges-requires t c κs = let o = owned t (c .before .before .before .before .before .before .before .before) in search needs
+check-node-check-edges-requires t c κs = let o = owned t (c .before .before .before .before .before .before .before .before .before .before) in search needs
 
-check-node-returns-5 : (t : ℕ) → check-node-lts.Need-returns-5 (node-claims t) (check-node-at t) check-node.Post
-check-node-returns-5 t c =
-    let o = c .before .before .before .before .before .before .before .before .before in
+check-node-returns-6 : (t : ℕ) → check-node-lts.Need-returns-6 (node-claims t) (check-node-at t) check-node.Post
+check-node-returns-6 t c =
+    let o = c .before .before .before .before .before .before .before .before .before .before .before in
     let x = o .before .before .before .before .before .args in
     let r = reached (x .v) in
-    inner-said (x .a .now) (x .count) (r .fewest) (r .node) (r .parent) (r .place) (x .before) _ (c .check-edges .result) (r .below) (c .before .before .before .before .before .before .len .result) (c .before .before .before .before .if3 .left) (c .before .before .before .before .before .before .len .ensures)
+    let n = c .before .before .before .before .before .before .before .before .len in
+    let z = c .before .before .before .before .before .before .if3 .left in
+    inner-said (x .a .now) (x .count) (r .fewest) (r .node) (r .parent) (r .place) (x .before) _ (c .check-edges .result) (r .below) (n .result) z (n .ensures)
     (own-said (x .a .now) (x .count) r (x .before) (owned t o) (omega (arith, o .before .before .if1 .left))) (c .check-edges .ensures)
 
 pub +check-edges+check-node-spec : {M : Type 1} → statement M
@@ -263,6 +282,8 @@ pub +check-edges+check-node-spec : {M : Type 1} → statement M
     (check-node-returns-3 t)
     (check-node-lead-requires t)
     (check-node-returns-4 t)
+    (check-node-check-leaves-requires t)
+    (check-node-returns-5 t)
     (check-node-sub-check-edges-2 t)
     (check-node-check-edges-requires t)
-    (check-node-returns-5 t)
+    (check-node-returns-6 t)

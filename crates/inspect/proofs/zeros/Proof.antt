@@ -3,24 +3,15 @@
 use Prim.Native.Nat.{ℕ, _≤_, _<_, _-_, _+_}
 use native.Mathlib.Omega.{arith}
 use mathlib.Core.Path.{_≡_, refl}
-use lib.Bits.{bitOr, bitAnd, or-add-and, and-le-l, and-le-r}
+use lib.Bits.{bitOr}
 use lib.Dec.{eqb}
 use lib.ListN.{getD}
 use mathlib.Core.List.{List}
-use Rattle.inspect.proofs.Words.{Clear, clear-more, zeros-clear, clear-zeros}
+use Rattle.inspect.proofs.Words.{or-left, or-right, or-both, Clear, clear-more, zeros-clear, clear-zeros}
 use Rattle.inspect.proofs.Decisions.{decides-as, equal}
 use borrow.Author.Needs.{needs}
 use Rattle.inspect.proofs.zeros.Statement.{statement}
 use Rattle.inspect.proofs.zeros.Tie as tie
-
-or-left : (x y : ℕ) → bitOr x y ≡ 0 → x ≡ 0
-or-left x y e = omega (arith, e, or-add-and x y, and-le-r x y)
-
-or-right : (x y : ℕ) → bitOr x y ≡ 0 → y ≡ 0
-or-right x y e = omega (arith, e, or-add-and x y, and-le-l x y)
-
-or-both : (x y : ℕ) → x ≡ 0 → y ≡ 0 → bitOr x y ≡ 0
-or-both x y e f = rw (e, f) refl
 
 -- the words from f up to t, of those up to e, ored
 record Ored (w : List ℕ) (b f t e all : ℕ) : Type 0 where

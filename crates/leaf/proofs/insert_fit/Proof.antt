@@ -18,28 +18,28 @@ use Rattle.leaf.proofs.insert_fit.Statement.{statement}
 use Rattle.leaf.proofs.insert_fit.Tie as tie
 
 -- after the key, and after the value
-key-in : (c : tie.After-insert-word) → let x = c .before .before .before .before .before .args in (h : List ℕ) (ns : List NodeVal) → RoomAt ns (x .n .0) (x .at .0) → Arena (x .a .now) h ns → Stored (c .insert-word .last .0) h (set (map fieldsOf ns) (x .n .0) (withColumn keyColumn (insertAt (map keyOf (nth ns (x .n .0) .pairs)) (x .at .0) (x .kv .0)) (fieldsOf (nth ns (x .n .0)))))
+key-in : (c : tie.After-open-word) → let x = c .before .before .before .before .before .args in (h : List ℕ) (ns : List NodeVal) → RoomAt ns (x .n .0) (x .at .0) → Arena (x .a .now) h ns → Stored (c .open-word .last .0) h (set (map fieldsOf ns) (x .n .0) (withColumn keyColumn (insertAt (map keyOf (nth ns (x .n .0) .pairs)) (x .at .0) (x .kv .0)) (fieldsOf (nth ns (x .n .0)))))
 key-in c h ns r a =
     let x = c .before .before .before .before .before .args in
     let e = c .before .before .len .ensures ∙ len-is a (x .n .0) (r .node) in
-    first ns (x .n .0) (r .node) (λ (f : Fields). withColumn keyColumn (insertAt (f .keys) (x .at .0) (x .kv .0)) f) (c .insert-word .ensures h _ keyColumn (keys-in ns (x .n .0) (r .node) _ e) (omega (arith, r .room)) (stored a))
+    first ns (x .n .0) (r .node) (λ (f : Fields). withColumn keyColumn (insertAt (f .keys) (x .at .0) (x .kv .0)) f) (c .open-word .ensures h _ keyColumn _ (keys-in ns (x .n .0) (r .node) _ e) (omega (arith, e, r .room)) (omega (arith, e, r .place)) (stored a))
 
-val-in : (c : tie.After-insert-word2) → let x = c .before .before .before .before .before .before .before .before .before .args in (h : List ℕ) (ns : List NodeVal) → RoomAt ns (x .n .0) (x .at .0) → Arena (x .a .now) h ns → Stored (c .insert-word2 .last .0) h (set (map fieldsOf ns) (x .n .0) (withColumn valColumn (insertAt (map valOf (nth ns (x .n .0) .pairs)) (x .at .0) (x .kv .1)) (withColumn keyColumn (insertAt (map keyOf (nth ns (x .n .0) .pairs)) (x .at .0) (x .kv .0)) (fieldsOf (nth ns (x .n .0))))))
+val-in : (c : tie.After-open-word2) → let x = c .before .before .before .before .before .before .before .before .before .args in (h : List ℕ) (ns : List NodeVal) → RoomAt ns (x .n .0) (x .at .0) → Arena (x .a .now) h ns → Stored (c .open-word2 .last .0) h (set (map fieldsOf ns) (x .n .0) (withColumn valColumn (insertAt (map valOf (nth ns (x .n .0) .pairs)) (x .at .0) (x .kv .1)) (withColumn keyColumn (insertAt (map keyOf (nth ns (x .n .0) .pairs)) (x .at .0) (x .kv .0)) (fieldsOf (nth ns (x .n .0))))))
 val-in c h ns r a =
     let x = c .before .before .before .before .before .before .before .before .before .args in
     let e = c .before .before .before .before .before .before .len .ensures ∙ len-is a (x .n .0) (r .node) in
-    again ns (x .n .0) (r .node) (λ (f : Fields). withColumn valColumn (insertAt (f .vals) (x .at .0) (x .kv .1)) f) _ (c .insert-word2 .ensures h _ valColumn (vals-in ns (x .n .0) (r .node) _ e _ (length-map (nth ns (x .n .0) .pairs) valOf ∙ sym e)) (omega (arith, r .room)) (key-in (c .before .before .before .before) h ns r a))
+    again ns (x .n .0) (r .node) (λ (f : Fields). withColumn valColumn (insertAt (f .vals) (x .at .0) (x .kv .1)) f) _ (c .open-word2 .ensures h _ valColumn _ (vals-in ns (x .n .0) (r .node) _ e _ (length-map (nth ns (x .n .0) .pairs) valOf ∙ sym e)) (omega (arith, e, r .room)) (omega (arith, e, r .place)) (key-in (c .before .before .before .before) h ns r a))
 
 len-requires : tie.Need-len-requires
 len-requires c κs = room-here (c .before .before .pre) .0
 
-insert-word-requires : tie.Need-insert-word-requires
-insert-word-requires c κs =
+open-word-requires : tie.Need-open-word-requires
+open-word-requires c κs =
     let k = room-here (c .before .before .before .before .pre) in
     omega arith
 
-insert-word-requires-2 : tie.Need-insert-word-requires-2
-insert-word-requires-2 c κs =
+open-word-requires-2 : tie.Need-open-word-requires-2
+open-word-requires-2 c κs =
     let k = room-here (c .before .before .before .before .before .before .before .before .pre) in
     omega arith
 
@@ -68,8 +68,8 @@ insert-fit-spec =
     tie.close
     (tie.spec
     len-requires
-    insert-word-requires
-    insert-word-requires-2
+    open-word-requires
+    open-word-requires-2
     add-set-len
     set-len-requires
     same-length

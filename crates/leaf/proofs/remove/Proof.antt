@@ -19,30 +19,32 @@ use Rattle.leaf.proofs.remove.Statement.{statement}
 use Rattle.leaf.proofs.remove.Tie as tie
 
 -- after the key, and after the value
-key-out : (c : tie.After-remove-word) → let x = c .before .before .before .before .before .args in (h : List ℕ) (ns : List NodeVal) → PairAt ns (x .n .0) (x .at .0) → Arena (x .a .now) h ns → (c .remove-word .result ≡ getD (map keyOf (nth ns (x .n .0) .pairs)) (x .at .0) 0) × Stored (c .remove-word .last .0) h (set (map fieldsOf ns) (x .n .0) (withColumn keyColumn (removeAt (map keyOf (nth ns (x .n .0) .pairs)) (x .at .0)) (fieldsOf (nth ns (x .n .0)))))
+key-out : (c : tie.After-close-word) → let x = c .before .before .before .before .before .args in (h : List ℕ) (ns : List NodeVal) → PairAt ns (x .n .0) (x .at .0) → Arena (x .a .now) h ns → (c .close-word .result ≡ getD (map keyOf (nth ns (x .n .0) .pairs)) (x .at .0) 0) × Stored (c .close-word .last .0) h (set (map fieldsOf ns) (x .n .0) (withColumn keyColumn (removeAt (map keyOf (nth ns (x .n .0) .pairs)) (x .at .0)) (fieldsOf (nth ns (x .n .0)))))
 key-out c h ns r a =
     let x = c .before .before .before .before .before .args in
     let e = c .before .before .len .ensures ∙ len-is a (x .n .0) (r .node) in
-    let k = c .remove-word .ensures h _ keyColumn (keys-in ns (x .n .0) (r .node) _ e) (stored a) in
+    let f = a .small (x .n .0) (r .node) .pairs-fit in
+    let k = c .close-word .ensures h _ keyColumn _ (keys-in ns (x .n .0) (r .node) _ e) (omega (arith, e, f)) (omega (arith, e, r .place)) (stored a) in
     (k .0 ∙ ap (λ (f : Fields). getD (f .keys) (x .at .0) 0) (row-fields ns (x .n .0)), first ns (x .n .0) (r .node) (λ (f : Fields). withColumn keyColumn (removeAt (f .keys) (x .at .0)) f) (k .1))
 
-val-out : (c : tie.After-remove-word2) → let x = c .before .before .before .before .before .before .before .before .before .args in (h : List ℕ) (ns : List NodeVal) → PairAt ns (x .n .0) (x .at .0) → Arena (x .a .now) h ns → (c .remove-word2 .result ≡ getD (map valOf (nth ns (x .n .0) .pairs)) (x .at .0) 0) × Stored (c .remove-word2 .last .0) h (set (map fieldsOf ns) (x .n .0) (withColumn valColumn (removeAt (map valOf (nth ns (x .n .0) .pairs)) (x .at .0)) (withColumn keyColumn (removeAt (map keyOf (nth ns (x .n .0) .pairs)) (x .at .0)) (fieldsOf (nth ns (x .n .0))))))
+val-out : (c : tie.After-close-word2) → let x = c .before .before .before .before .before .before .before .before .before .args in (h : List ℕ) (ns : List NodeVal) → PairAt ns (x .n .0) (x .at .0) → Arena (x .a .now) h ns → (c .close-word2 .result ≡ getD (map valOf (nth ns (x .n .0) .pairs)) (x .at .0) 0) × Stored (c .close-word2 .last .0) h (set (map fieldsOf ns) (x .n .0) (withColumn valColumn (removeAt (map valOf (nth ns (x .n .0) .pairs)) (x .at .0)) (withColumn keyColumn (removeAt (map keyOf (nth ns (x .n .0) .pairs)) (x .at .0)) (fieldsOf (nth ns (x .n .0))))))
 val-out c h ns r a =
     let x = c .before .before .before .before .before .before .before .before .before .args in
     let e = c .before .before .before .before .before .before .len .ensures ∙ len-is a (x .n .0) (r .node) in
-    let k = c .remove-word2 .ensures h _ valColumn (vals-in ns (x .n .0) (r .node) _ e _ (length-map (nth ns (x .n .0) .pairs) valOf ∙ sym e)) (key-out (c .before .before .before .before) h ns r a .1) in
+    let f = a .small (x .n .0) (r .node) .pairs-fit in
+    let k = c .close-word2 .ensures h _ valColumn _ (vals-in ns (x .n .0) (r .node) _ e _ (length-map (nth ns (x .n .0) .pairs) valOf ∙ sym e)) (omega (arith, e, f)) (omega (arith, e, r .place)) (key-out (c .before .before .before .before) h ns r a .1) in
     (k .0 ∙ ap (λ (f : Fields). getD (f .vals) (x .at .0) 0) (getD-set-same (map fieldsOf ns) (x .n .0) _ (fieldsOf blank) (rw length-map (r .node))), again ns (x .n .0) (r .node) (λ (f : Fields). withColumn valColumn (removeAt (f .vals) (x .at .0)) f) _ (k .1))
 
 len-requires : tie.Need-len-requires
 len-requires c κs = pair-here (c .before .before .pre) .0
 
-remove-word-requires : tie.Need-remove-word-requires
-remove-word-requires c κs =
+close-word-requires : tie.Need-close-word-requires
+close-word-requires c κs =
     let k = pair-here (c .before .before .before .before .pre) in
     omega arith
 
-remove-word-requires-2 : tie.Need-remove-word-requires-2
-remove-word-requires-2 c κs =
+close-word-requires-2 : tie.Need-close-word-requires-2
+close-word-requires-2 c κs =
     let k = pair-here (c .before .before .before .before .before .before .before .before .pre) in
     omega arith
 
@@ -74,8 +76,8 @@ remove-spec =
     tie.close
     (tie.spec
     len-requires
-    remove-word-requires
-    remove-word-requires-2
+    close-word-requires
+    close-word-requires-2
     sub-set-len
     set-len-requires
     same-length

@@ -9,7 +9,7 @@ use Rattle.model.specs.Promise.{Holds}
 use Rattle.model.proofs.Forward.{forward}
 use Rattle.model.proofs.Forks.{starts}
 use Rattle.model.proofs.Standing.{root-at}
-use Rattle.search.proofs.Descents.{header-in, at-within, keys-few, low-few}
+use Rattle.search.proofs.Descents.{header-in, at-within, keys-few, keys-rise, low-few}
 use Rattle.navigate.proofs.Lowers.{Lowering, lowered, lowering-on}
 use Rattle.navigate.proofs.lower_leaf_edge.Statement.{statement}
 use Rattle.navigate.proofs.lower_leaf_edge.Tie as tie
@@ -40,7 +40,10 @@ keys-requires : tie.Need-keys-requires Inv-loop μ-loop
 keys-requires c κs = let x = c .before .before .before .before in let o = forward (x .args .a .now) (x .pre) in at-within o ((c .loop .inv _ o) .place)
 
 find-lower-bound-index-requires : tie.Need-find-lower-bound-index-requires Inv-loop μ-loop
-find-lower-bound-index-requires c κs = tt
+find-lower-bound-index-requires c κs =
+    let x = c .before .before .before .before .before in
+    let o = forward (x .args .a .now) (x .pre) in
+    keys-rise o ((c .before .loop .inv _ o) .place) (c .keys .result .now) (c .keys .ensures)
 
 returns : tie.Need-returns Inv-loop μ-loop
 returns c = λ s o. lowered _ o _ _ (c .before .before .before .keys .result .now) (c .before .before .before .keys .ensures) (c .before .before .find-lower-bound-index .result) (c .before .before .find-lower-bound-index .ensures) _ (c .before .before .before .before .loop .inv s o) (c .if1 .taken)

@@ -31,7 +31,7 @@ add-t13 c =
     let x = c .before .before .before .before .before .before .before .before .before .args in
     let d = c .before .before .before .before .find-key-index in
     let l = kv-inside (c .before .before .before .before .before .before .bound .given .0 .0) (x .start .0) (drop (x .start .0) (x .keys .now)) (d .result) (d .ensures) (c .before .before .p .given .0 .0) (c .before .before .p .given .1) in
-    omega (arith, length-drop (x .start .0) (x .keys .now), c .before .before .before .before .before .before .before .before .before .pre)
+    omega (arith, length-drop (x .start .0) (x .keys .now), c .before .before .before .before .before .before .before .before .before .pre .0)
 
 enum-known-p-2 : tie.Need-enum-known-p-2
 enum-known-p-2 c = search needs

@@ -1,30 +1,34 @@
 use mathlib.Core.Logic.{⊎-elim}
 use mathlib.Core.Path.{_≡_, refl, sym, ap, _∙_}
 use mathlib.Core.List.{List}
-use Prim.Native.Nat.{ℕ, _+_, _-_, _≤_, _<_}
+use Prim.Native.Nat.{ℕ, _+_, _-_, _/_, _≤_, _<_}
 use native.Mathlib.Omega.{arith}
 use lib.ListN.{length, getD}
 use borrow.Author.Needs.{needs}
-use Rattle.model.specs.Range.{edge}
+use Rattle.model.specs.Layout.{most}
+use Rattle.model.specs.Range.{kv, edge}
 use Rattle.model.specs.Search as model
 use Rattle.model.specs.State.{State}
 use Rattle.model.specs.Promise.{Holds}
 use Rattle.model.proofs.Forward.{forward}
 use Rattle.model.proofs.Standing.{root-at}
-use Rattle.search.proofs.Indexes.{indexFrom, index-past, index-kv, index-edge, index-end}
-use Rattle.search.proofs.Descents.{Seeking, header-in, at-within, keys-few, found, ended, onward, edge-low}
+use Rattle.model.specs.Lists.{Rises}
+use Rattle.search.proofs.Indexes.{indexFrom, index-end}
+use Rattle.search.proofs.Halving.{Halved, half, halved-start, halved-right, halved-left, halved-kv, halved-edge, ends-first, ends-last, ends-past}
+use Rattle.search.proofs.Descents.{Seeking, header-in, at-within, keys-few, keys-rise, keys-none, found, ended, onward, edge-low}
 use Rattle.search.proofs.search_tree.Statement.{statement}
 use Rattle.search.proofs.search_tree.Tie as tie
 use Rattle.search.proofs.search_tree.Reads as reads
 use Rattle.search.proofs.search_tree.Lts as lts
 use Rattle.node.proofs.edge.Reads as edge-reads
 use Rattle.node.proofs.keys.Reads as keys-reads
+use Rattle.search.proofs.spread.Reads as spread-reads
 
 abbrev Inv-loop : tie.InvT-loop
-Inv-loop a key node height part n i₀ i = (i ≤ n) × (n ≡ length part) × (indexFrom key part 0 ≡ indexFrom key part i)
+Inv-loop a key node height part n i₀ k₀ size₀ i k size = (n ≡ length part) × (0 < size) × Halved key part 0 i size k
 
 abbrev μ-loop : tie.MeasureT-loop
-μ-loop a key node height part n i₀ i = n - i
+μ-loop a key node height part n i₀ k₀ size₀ i k size = size
 
 abbrev Inv-levels : tie.InvT-levels
 Inv-levels a key node₀ height₀ node height = (s : State) → Holds a s → Seeking key s (node .0) height
@@ -32,8 +36,8 @@ Inv-levels a key node₀ height₀ node height = (s : State) → Holds a s → S
 abbrev μ-levels : tie.MeasureT-levels
 μ-levels a key node₀ height₀ node height = height
 
-shared-slice-read-t10 : tie.Need-shared-slice-read-t10 Inv-loop μ-loop Inv-levels μ-levels
-shared-slice-read-t10 c = header-in (c .before .before .pre) 3 (omega arith)
+shared-slice-read-t17 : tie.Need-shared-slice-read-t17 Inv-loop μ-loop Inv-levels μ-levels
+shared-slice-read-t17 c = header-in (c .before .before .pre) 3 (omega arith)
 
 shared-slice-read-height : tie.Need-shared-slice-read-height Inv-loop μ-loop Inv-levels μ-levels
 shared-slice-read-height c = header-in (c .before .before .before .pre) 4 (omega arith)
@@ -49,49 +53,134 @@ keys-requires c κs =
     let o = forward (c .before .before .before .before .args .a .now) f in
     at-within o ((c .levels .inv _ o) .place)
 
-loop-holds : tie.Need-loop-holds Inv-loop μ-loop Inv-levels μ-levels
-loop-holds c = (omega arith, refl, refl)
+-- at a node: its keys are few, and rise
+few : (c : tie.After-keys Inv-loop μ-loop Inv-levels μ-levels) → length (c .keys .result .now) ≤ most
+few c =
+    let x = c .before .before .before .before .before in
+    let o = forward (x .args .a .now) (x .pre) in
+    keys-few o ((c .before .levels .inv _ o) .place) (c .keys .result .now) (c .keys .ensures)
+
+rises : (c : tie.After-keys Inv-loop μ-loop Inv-levels μ-levels) → Rises (c .keys .result .now)
+rises c =
+    let x = c .before .before .before .before .before in
+    let o = forward (x .args .a .now) (x .pre) in
+    keys-rise o ((c .before .levels .inv _ o) .place) (c .keys .result .now) (c .keys .ensures)
+
+sub-k : tie.Need-sub-k Inv-loop μ-loop Inv-levels μ-levels
+sub-k c = omega (arith, c .if1 .left)
 
 mul-k : tie.Need-mul-k Inv-loop μ-loop Inv-levels μ-levels
-mul-k c =
-    let x = c .before .before .before .before .before .before .before in
-    let o = forward (x .args .a .now) (x .pre) in
-    let y = c .before .before .before .levels .inv _ o in
-    omega (arith, keys-few o (y .place) (c .before .before .keys .result .now) (c .before .before .keys .ensures), c .loop-test .taken)
+mul-k c = omega (arith, few (c .before))
 
 shared-slice-read-k : tie.Need-shared-slice-read-k Inv-loop μ-loop Inv-levels μ-levels
-shared-slice-read-k c = omega (arith, c .before .loop-test .taken)
+shared-slice-read-k c = omega (arith, c .before .if1 .left)
+
+spread-requires : tie.Need-spread-requires Inv-loop μ-loop Inv-levels μ-levels
+spread-requires c κs =
+    let x = c .before .before .before .before .before .before .before in
+    let o = forward (x .args .a .now) (x .pre) in
+    at-within o ((c .before .before .before .levels .inv _ o) .place) .0
+
+shared-slice-read-k-2 : tie.Need-shared-slice-read-k-2 Inv-loop μ-loop Inv-levels μ-levels
+shared-slice-read-k-2 c = omega (arith, c .before .before .before .before .if1 .left)
+
+loop-holds : tie.Need-loop-holds Inv-loop μ-loop Inv-levels μ-levels
+loop-holds c =
+    let q = c .before .before .before .before in
+    let ks = q .keys .result .now in
+    let l : 0 < length ks = omega (arith, c .before .before .before .if1 .left) in
+    let r = rises q in
+    (refl, l, ⊎-elim (λ w. rw (w .2) (halved-start _ ks 0 _ 0 r (omega arith) l (omega arith))) (λ w. rw (w .1) (halved-start _ ks 0 _ (length ks - 1) r (omega arith) (omega arith) (omega arith))) (c .if2 .came))
+
+sub-half : tie.Need-sub-half Inv-loop μ-loop Inv-levels μ-levels
+sub-half c = omega (arith, half (c .before .loop .size))
+
+add-x : tie.Need-add-x Inv-loop μ-loop Inv-levels μ-levels
+add-x c = omega (arith, half (c .before .loop .size), c .before .loop .inv .2 .within, few (c .before .before .before .before .before .before))
+
+sub-x : tie.Need-sub-x Inv-loop μ-loop Inv-levels μ-levels
+sub-x c = omega (arith, half (c .before .loop .size), c .before .loop .inv .2 .within, few (c .before .before .before .before .before .before), c .loop-test .taken)
+
+mul-x : tie.Need-mul-x Inv-loop μ-loop Inv-levels μ-levels
+mul-x c = omega (arith, half (c .before .loop .size), c .before .loop .inv .2 .within, few (c .before .before .before .before .before .before))
+
+shared-slice-read-x : tie.Need-shared-slice-read-x Inv-loop μ-loop Inv-levels μ-levels
+shared-slice-read-x c = omega (arith, half (c .before .before .loop .size), c .before .before .loop .inv .2 .within, few (c .before .before .before .before .before .before .before), c .before .loop-test .taken)
 
 add-i : tie.Need-add-i Inv-loop μ-loop Inv-levels μ-levels
-add-i c = omega arith
+add-i c = omega (arith, half (c .before .before .before .loop .size), c .before .before .before .loop .inv .2 .within, few (c .before .before .before .before .before .before .before .before))
 
 loop-less : tie.Need-loop-less Inv-loop μ-loop Inv-levels μ-levels
-loop-less c = omega arith
+loop-less c = omega (arith, half (c .before .before .before .loop .size), c .before .before .loop-test .taken)
 
 loop-again : tie.Need-loop-again Inv-loop μ-loop Inv-levels μ-levels
 loop-again c =
     let l = c .before .before .before .loop in
-    let ks = c .before .before .before .before .keys .result .now in
-    let k = c .before .before .before .before .before .before .before .before .before .args .key in
-    (omega arith, refl, l .inv .2 ∙ index-past k ks (l .i) (omega (arith, c .before .before .loop-test .taken)) (omega (arith, c .if1 .left)))
+    let z = half (l .size) in
+    let t = c .before .before .loop-test .taken in
+    (refl, omega arith, halved-right (l .inv .2) (l .i + (l .size - l .size / 2) - 1) _ _ (omega arith) (omega arith) (c .if3 .taken) (omega arith) (omega arith))
 
--- where the scan leaves a node that does not have the key
-gone : (c : tie.Left-loop Inv-loop μ-loop Inv-levels μ-levels) → indexFrom (c .before .before .before .before .before .before .before .args .key) (c .before .before .keys .result .now) 0 ≡ edge (c .before .loop .i)
-gone c =
-    let k = c .before .before .before .before .before .before .before .args .key in
-    let ks = c .before .before .keys .result .now in
-    let l = c .before .loop in
+loop-less-2 : tie.Need-loop-less-2 Inv-loop μ-loop Inv-levels μ-levels
+loop-less-2 c = omega (arith, half (c .before .before .before .loop .size), c .before .before .loop-test .taken)
+
+loop-again-2 : tie.Need-loop-again-2 Inv-loop μ-loop Inv-levels μ-levels
+loop-again-2 c =
+    let l = c .before .before .before .loop in
+    let z = half (l .size) in
+    let t = c .before .before .loop-test .taken in
+    (refl, omega arith, halved-left (l .inv .2) (l .i + (l .size - l .size / 2) - 1) _ (omega arith) (omega arith) (c .if3 .left) (omega arith) (omega arith))
+
+mul-x-2 : tie.Need-mul-x-2 Inv-loop μ-loop Inv-levels μ-levels
+mul-x-2 c = omega (arith, c .before .loop .inv .1, c .before .loop .inv .2 .within, few (c .before .before .before .before .before .before))
+
+shared-slice-read-x-2 : tie.Need-shared-slice-read-x-2 Inv-loop μ-loop Inv-levels μ-levels
+shared-slice-read-x-2 c = omega (arith, c .before .before .loop .inv .1, c .before .before .loop .inv .2 .within, few (c .before .before .before .before .before .before .before))
+
+add-y : tie.Need-add-y Inv-loop μ-loop Inv-levels μ-levels
+add-y c = omega (arith, c .before .before .loop .inv .1, c .before .before .loop .inv .2 .within, few (c .before .before .before .before .before .before .before))
+
+sub-y : tie.Need-sub-y Inv-loop μ-loop Inv-levels μ-levels
+sub-y c = omega (arith, c .before .before .loop .inv .1, c .before .before .loop .inv .2 .within, few (c .before .before .before .before .before .before .before))
+
+mul-y : tie.Need-mul-y Inv-loop μ-loop Inv-levels μ-levels
+mul-y c = omega (arith, c .before .before .loop .inv .1, c .before .before .loop .inv .2 .within, few (c .before .before .before .before .before .before .before))
+
+shared-slice-read-y : tie.Need-shared-slice-read-y Inv-loop μ-loop Inv-levels μ-levels
+shared-slice-read-y c = omega (arith, c .before .before .before .loop .inv .1, c .before .before .before .loop .inv .2 .within, few (c .before .before .before .before .before .before .before .before))
+
+add-i-2 : tie.Need-add-i-2 Inv-loop μ-loop Inv-levels μ-levels
+add-i-2 c = omega (arith, c .before .before .before .loop .inv .1, c .before .before .before .loop .inv .2 .within, few (c .before .before .before .before .before .before .before .before))
+
+add-i-3 : tie.Need-add-i-3 Inv-loop μ-loop Inv-levels μ-levels
+add-i-3 c = omega (arith, c .before .before .before .before .loop .inv .1, c .before .before .before .before .loop .inv .2 .within, few (c .before .before .before .before .before .before .before .before .before))
+
+sub-i : tie.Need-sub-i Inv-loop μ-loop Inv-levels μ-levels
+sub-i c = omega (arith, c .before .before .before .before .loop .inv .1, c .before .before .before .before .loop .inv .2 .within, few (c .before .before .before .before .before .before .before .before .before))
+
+-- where the halving ends
+over : (c : tie.Joined5 Inv-loop μ-loop Inv-levels μ-levels) → Halved (c .before .before .before .before .before .before .before .before .before .before .before .before .before .before .before .args .key) (c .before .before .before .before .before .before .before .before .before .before .keys .result .now) 0 (c .if5 .i) 0 (c .if5 .k)
+over c =
+    let l = c .before .before .before .before .before .loop in
+    let h = l .inv .2 in
+    let m = c .before .before .before .before .loop-test .left in
     ⊎-elim
-    (λ w. l .inv .2 ∙ index-end k ks (l .i) (omega (arith, w .left)))
-    (λ w. l .inv .2 ∙ index-edge k ks (l .i) (omega (arith, w .0 .taken)) (omega (arith, w .2 .taken, w .3 .left)))
-    (c .loop-test .came)
+    (λ w. rw (w .1, w .2) (ends-first h (l .inv .1) m (w .0 .taken)))
+    (λ w. rw (w .1, w .2) (⊎-elim
+    (λ v. rw (v .1, v .2) (ends-last h (l .inv .1) m (w .0 .left) (v .0 .taken)))
+    (λ v. rw (v .1, v .2) (ends-past h (l .inv .1) m (v .0 .left)))
+    (c .before .if4 .came)))
+    (c .if5 .came)
+
+gone : (c : tie.Else6 Inv-loop μ-loop Inv-levels μ-levels) → indexFrom (c .before .before .before .before .before .before .before .before .before .before .before .before .before .before .before .before .args .key) (c .before .before .before .before .before .before .before .before .before .before .before .keys .result .now) 0 ≡ edge (c .before .if5 .i)
+gone c = halved-edge (over (c .before)) (c .if6 .left)
 
 edge-requires : tie.Need-edge-requires Inv-loop μ-loop Inv-levels μ-levels
 edge-requires c κs =
-    let x = c .before .before .before .before .before .before .before .before in
+    let x = c .before .before .before .before .before .before .before .before .before .before .before .before .before .before .before .before .before in
     let o = forward (x .args .a .now) (x .pre) in
-    let y = c .before .before .before .before .levels .inv _ o in
-    ((at-within o (y .place)) .0, edge-low o (x .args .key) _ (c .before .before .before .keys .result .now) (c .before .before .before .keys .ensures) _ _ y (gone (c .before)))
+    let y = c .before .before .before .before .before .before .before .before .before .before .before .before .before .levels .inv _ o in
+    let q = c .before .before .before .before .before .before .before .before .before .before .before .before .keys in
+    ((at-within o (y .place)) .0, edge-low o (x .args .key) _ (q .result .now) (q .ensures) _ _ y (gone (c .before)))
 
 sub-height : tie.Need-sub-height Inv-loop μ-loop Inv-levels μ-levels
 sub-height c = search needs
@@ -101,22 +190,30 @@ levels-less c = search needs
 
 levels-again : tie.Need-levels-again Inv-loop μ-loop Inv-levels μ-levels
 levels-again c =
-    let x = c .before .before .before .before .before .before .before .before .before in
-    let q = c .before .before .before .before .keys in
-    λ s o. onward o (x .args .key) _ (q .result .now) (q .ensures) _ _ (c .before .before .before .before .before .levels .inv s o) (c .before .if3 .left) (gone (c .before .before)) (c .edge .result .0) (c .edge .ensures)
+    let x = c .before .before .before .before .before .before .before .before .before .before .before .before .before .before .before .before .before .before in
+    let q = c .before .before .before .before .before .before .before .before .before .before .before .before .before .keys in
+    λ s o. onward o (x .args .key) _ (q .result .now) (q .ensures) _ _ (c .before .before .before .before .before .before .before .before .before .before .before .before .before .before .levels .inv s o) (c .before .if7 .left) (gone (c .before .before)) (c .edge .result .0) (c .edge .ensures)
 
 returns : tie.Need-returns Inv-loop μ-loop Inv-levels μ-levels
 returns c =
-    let x = c .before .before .before .before .before .before .before .before .before .before in
-    let q = c .before .before .before .before .before .keys in
-    let l = c .before .before .before .before .loop in
-    λ s o. found o (x .args .key) _ (q .result .now) (q .ensures) _ _ (c .before .before .before .before .before .before .levels .inv s o) (l .inv .2 ∙ index-kv (x .args .key) (q .result .now) (l .i) (c .before .before .before .loop-test .taken) (c .if2 .taken))
+    let x = c .before .before .before .before .before .before in
+    let q = c .before .keys in
+    λ s o.
+    let y = c .before .before .levels .inv s o in
+    let z = keys-none o (y .place) (q .result .now) (q .ensures) (c .if1 .taken) in
+    ended o (x .args .key) _ (q .result .now) (q .ensures) 0 _ y z (index-end (x .args .key) (q .result .now) 0 (omega (arith, c .if1 .taken)))
 
 returns-2 : tie.Need-returns-2 Inv-loop μ-loop Inv-levels μ-levels
 returns-2 c =
-    let x = c .before .before .before .before .before .before .before .before in
-    let q = c .before .before .before .keys in
-    λ s o. ended o (x .args .key) _ (q .result .now) (q .ensures) _ _ (c .before .before .before .before .levels .inv s o) (c .if3 .taken) (gone (c .before))
+    let x = c .before .before .before .before .before .before .before .before .before .before .before .before .before .before .before .before in
+    let q = c .before .before .before .before .before .before .before .before .before .before .before .keys in
+    λ s o. found o (x .args .key) _ (q .result .now) (q .ensures) _ _ (c .before .before .before .before .before .before .before .before .before .before .before .before .levels .inv s o) (halved-kv (over (c .before)) (c .if6 .taken))
+
+returns-3 : tie.Need-returns-3 Inv-loop μ-loop Inv-levels μ-levels
+returns-3 c =
+    let x = c .before .before .before .before .before .before .before .before .before .before .before .before .before .before .before .before .before in
+    let q = c .before .before .before .before .before .before .before .before .before .before .before .before .keys in
+    λ s o. ended o (x .args .key) _ (q .result .now) (q .ensures) _ _ (c .before .before .before .before .before .before .before .before .before .before .before .before .before .levels .inv s o) (c .if7 .taken) (gone (c .before))
 
 pub search-tree-spec : {M : Type 1} → statement M
 search-tree-spec =
@@ -126,19 +223,39 @@ search-tree-spec =
     μ-loop
     Inv-levels
     μ-levels
-    shared-slice-read-t10
+    shared-slice-read-t17
     shared-slice-read-height
     levels-holds
     keys-requires
-    loop-holds
+    sub-k
     mul-k
     shared-slice-read-k
+    spread-requires
+    shared-slice-read-k-2
+    loop-holds
+    sub-half
+    add-x
+    sub-x
+    mul-x
+    shared-slice-read-x
     add-i
     loop-less
     loop-again
+    loop-less-2
+    loop-again-2
+    mul-x-2
+    shared-slice-read-x-2
+    add-y
+    sub-y
+    mul-y
+    shared-slice-read-y
+    add-i-2
+    add-i-3
+    sub-i
     edge-requires
     sub-height
     levels-less
     levels-again
     returns
-    returns-2)
+    returns-2
+    returns-3)

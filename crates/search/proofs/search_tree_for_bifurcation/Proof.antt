@@ -4,10 +4,11 @@ use native.Mathlib.Omega.{arith}
 use borrow.Author.Needs.{needs}
 use Rattle.model.specs.Range.{fork, forkOf}
 use Rattle.model.specs.State.{State}
+use Rattle.model.specs.Lists.{Rises}
 use Rattle.model.specs.Promise.{Holds}
 use Rattle.model.proofs.Forward.{forward}
 use Rattle.model.proofs.Standing.{root-at}
-use Rattle.search.proofs.Descents.{Forking, header-in, at-within, keys-few, low-few, parting, coinciding, forking-on}
+use Rattle.search.proofs.Descents.{Forking, header-in, at-within, keys-few, keys-rise, low-few, parting, coinciding, forking-on}
 use Rattle.search.proofs.search_tree_for_bifurcation.Statement.{statement}
 use Rattle.search.proofs.search_tree_for_bifurcation.Tie as tie
 use Rattle.search.proofs.search_tree_for_bifurcation.Reads as reads
@@ -37,11 +38,18 @@ loop-holds c =
 keys-requires : tie.Need-keys-requires Inv-loop μ-loop
 keys-requires c κs = let x = c .before .before .before .before in let o = forward (x .args .a .now) (x .pre) in at-within o ((c .loop .inv _ o) .place)
 
+-- the keys of a node rise
+rises : (c : tie.After-keys Inv-loop μ-loop) → Rises (c .keys .result .now)
+rises c =
+    let x = c .before .before .before .before .before in
+    let o = forward (x .args .a .now) (x .pre) in
+    keys-rise o ((c .before .loop .inv _ o) .place) (c .keys .result .now) (c .keys .ensures)
+
 find-lower-bound-index-requires : tie.Need-find-lower-bound-index-requires Inv-loop μ-loop
-find-lower-bound-index-requires c κs = tt
+find-lower-bound-index-requires c κs = rises c
 
 find-upper-bound-index-requires : tie.Need-find-upper-bound-index-requires Inv-loop μ-loop
-find-upper-bound-index-requires c κs = low-few (c .before .before .before .loop .bounds .start) (c .before .before .keys .result .now) (c .before .find-lower-bound-index .result) (c .before .find-lower-bound-index .ensures)
+find-upper-bound-index-requires c κs = (low-few (c .before .before .before .loop .bounds .start) (c .before .before .keys .result .now) (c .before .find-lower-bound-index .result) (c .before .find-lower-bound-index .ensures), rises (c .before .before))
 
 returns : tie.Need-returns Inv-loop μ-loop
 returns c = λ s o. parting o (c .before .before .before .before .before .before .before .before .before .before .before .before .args .range) (c .before .before .before .before .before .before .before .before .loop .bounds) _ (c .before .before .before .before .before .before .before .keys .result .now) (c .before .before .before .before .before .before .before .keys .ensures) (c .before .before .before .before .before .before .find-lower-bound-index .result) (c .before .before .before .before .find-upper-bound-index .result) (c .before .before .before .before .before .before .find-lower-bound-index .ensures) (c .before .before .before .before .find-upper-bound-index .ensures) _ (c .before .before .before .before .before .before .before .before .loop .inv s o) (c .if1 .taken)
