@@ -136,7 +136,7 @@ fn spent(f: impl FnOnce()) -> f64 {
 
 impl Three {
     fn new(nodes: usize) -> Self {
-        let mut arena = vec![0; 10 + 38 * nodes];
+        let mut arena = vec![0; 10 + 39 * nodes];
         assert_eq!(ffi::format(&mut arena), 0);
         Three { turn: 0, arena, btree: BTreeMap::new(), absl: unsafe { absl_new() } }
     }

@@ -17,7 +17,7 @@ const BATCHES: [usize; 5] = [1, 10, 100, 1_000, 10_000];
 const ROUNDS: usize = 40;
 
 fn formatted(nodes: usize) -> Vec<u64> {
-    let mut arena = vec![0; 10 + 38 * nodes];
+    let mut arena = vec![0; 10 + 39 * nodes];
     assert_eq!(ffi::format(&mut arena), 0);
     arena
 }
@@ -46,7 +46,7 @@ fn shuffled(n: u64) -> impl Iterator<Item = u64> {
 fn capacity(nodes: usize) {
     let rising = run(&mut formatted(nodes), &puts(1..=11 * nodes as u64));
     let random = run(&mut formatted(nodes), &puts(shuffled(11 * nodes as u64)));
-    println!("{nodes},{},{rising},{random}", 10 + 38 * nodes);
+    println!("{nodes},{},{rising},{random}", 10 + 39 * nodes);
 }
 
 /// An arena with five pairs a node, and the counters of the next and of the oldest message.

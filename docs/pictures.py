@@ -116,18 +116,18 @@ COLOURS = ["#dcebf2", "#dcebf2", "#f6e3c5", "#eeeeee"]
 
 def arena():
     body = []
-    body.append(text(24, 30, "1  The arena: 10 header words, then N nodes of 38 words. Here N = 4, so 162 words", 15, bold=True))
+    body.append(text(24, 30, "1  The arena: 10 header words, then N nodes of 39 words. Here N = 4, so 166 words", 15, bold=True))
     names = ["format", "N", "offset", "root", "height", "pairs", "first free", "free", "seen", "mark"]
-    words = [1, 4, 10, 2, 1, 12, 3, 1, 1, 12]
+    words = [2, 4, 10, 2, 1, 12, 3, 1, 1, 12]
     for i, (n, w) in enumerate(zip(names, words)):
         x = 24 + 56 * i
         body += [box(x, 48, 56, 34, SAND, round=0), text(x + 28, 70, str(w), 14, "middle"), text(x + 28, 97, n, 10, "middle", GREY)]
         body.append(text(x + 28, 44, str(i), 9, "middle", GREY))
     for k in range(4):
         x = 584 + 92 * k
-        body += [box(x, 48, 92, 34, COLOURS[k], round=0), text(x + 46, 70, f"node {k}", 13, "middle"), text(x + 46, 97, "38 words", 10, "middle", GREY)]
+        body += [box(x, 48, 92, 34, COLOURS[k], round=0), text(x + 46, 70, f"node {k}", 13, "middle"), text(x + 46, 97, "39 words", 10, "middle", GREY)]
 
-    body.append(text(24, 138, "2  The nodes: state, length, parent, edge index; up to 11 keys, 11 values, 12 edges; words not in use are 0", 15, bold=True))
+    body.append(text(24, 138, "2  The nodes: up to 11 keys, 11 values and 12 edges; the count of pairs below; words not in use are 0", 15, bold=True))
     for k, (kind, n, parent, edge, keys, edges) in enumerate(NODES):
         y = 152 + 34 * k
         state = {"leaf": 1, "free": 0}.get(kind, 2)
@@ -151,10 +151,13 @@ def arena():
             body += [box(x, y + 3, 25, 26, COLOURS[k] if used else "white", GREY, 0), text(x + 12.5, y + 20, str(edges[i]) if used else "0", 11, "middle", INK if used else "#bbbbbb")]
             x += 25
         body.append(text(x + 6, y + 20, ".. 12", 11, "start", GREY))
+        below = 12 if edges else n
+        body += [box(926, y + 3, 30, 26, COLOURS[k], round=0), text(941, y + 20, str(below), 11.5, "middle")]
     for x, s in ((190, "state"), (234, "length"), (278, "parent"), (322, "edge")):
         body.append(text(x + 22, 300, s, 10, "middle", GREY))
     body.append(text(376, 300, "keys", 10, "start", GREY))
     body.append(text(763, 300, "edges", 10, "start", GREY))
+    body.append(text(941, 300, "count", 10, "middle", GREY))
 
     body.append(text(24, 340, "3  The tree that the edges make: every leaf equally deep, 5 to 11 pairs in each node but the root", 15, bold=True))
     body += [box(440, 356, 80, 30, COLOURS[2]), text(480, 376, "7", 14, "middle"), text(530, 376, "node 2", 11, "start", GREY)]
@@ -217,7 +220,7 @@ def split_merge():
     part, _ = node(500, 286, list(range(1, 12)), 0, hot=(7,))
     body += part
     body.append(text(500, 340, "The left node keeps all pairs; node 1 is returned. The root is empty and is", 12))
-    body.append(text(500, 357, "returned too. Free chain: 2, then 1. No pair is lost: that is proved.", 12))
+    body.append(text(500, 357, "returned too. Free chain: 1, then 2. No pair is lost: that is proved.", 12))
     save("split-merge", 960, 384, body)
 
 

@@ -5,7 +5,8 @@
  * Every call is proved: for any words that it is lent, what it returns and what every lent word holds when it ends
  * (crates/cuffgarnet/src/lib.rt). The caller's part, which no proof can see, is what Rust's references ask:
  *   - a pointer is aligned for uint64_t, and as many words as its length says may be read, and written unless const;
- *   - `second`, `written` and `more` are never NULL; a slice of length 0 may have any pointer, NULL too;
+ *   - a pointer to one word (`second`, `written`, `more`, and `key` and `value` of cuffgarnet_at) is never NULL; a slice of
+ *     length 0 may have any pointer, NULL too;
  *   - words that a call writes overlap no other words lent to the same call, and nobody else touches them meanwhile.
  *
  * Every call but cuffgarnet_format first checks the whole arena, which costs a few passes over its words (docs/SPEED.md);
@@ -25,16 +26,17 @@ extern "C" {
 #endif
 
 /* The numbers that calls return, and that a batch writes for each order. From 3 on they are refusals: no lent word has
- * changed, but for the second words, which are then 0. Where several would fit, the first of 7, 4, 8, 12, 5, 6, 3 or 11 is given. */
+ * changed, but for the words of the answer (`second` and the like), which are written at every call and are then 0. Where several
+ * would fit, the first of 7, 4, 8, 12, 5, 6, 3 or 11 is given; only cuffgarnet_upgrade has 7 behind 4. */
 enum cuffgarnet_answer {
-    CUFFGARNET_DONE = 0,      /* put a new key; reserved; formatted; checked; listed; restored; batch run */
-    CUFFGARNET_VALUE = 1,     /* get: found; put: replaced; delete: removed; the second word is the (former) value */
-    CUFFGARNET_ABSENT = 2,    /* get or delete: no such key */
+    CUFFGARNET_DONE = 0,      /* put a new key; reserved; formatted; checked; listed; counted; restored; upgraded; batch run */
+    CUFFGARNET_VALUE = 1,     /* get: found; put: replaced; delete: removed; the second word is the (former) value. at: there */
+    CUFFGARNET_ABSENT = 2,    /* get or delete: no such key; at: no pair at that rank */
     CUFFGARNET_NO_ROOM = 3,   /* put of an absent key lacks nodes */
-    CUFFGARNET_BAD_ARENA = 4, /* the words are not a well-formed arena (docs/RULES.md) */
+    CUFFGARNET_BAD_ARENA = 4, /* the words are not a well-formed arena of format 2 (docs/RULES.md); of format 1, in upgrade */
     CUFFGARNET_BAD_RANGE = 5, /* start above end; or equal and both excluded; or a kind of bound that is none */
     CUFFGARNET_BAD_ORDER = 6, /* an order's code is not 1, 2, 3 or 4 */
-    CUFFGARNET_BAD_SIZE = 7,  /* a length that cannot be: see format, batch and restore */
+    CUFFGARNET_BAD_SIZE = 7,  /* a length that cannot be: see format, batch, restore and upgrade */
     CUFFGARNET_BAD_IMAGE = 8, /* the image is not a well-formed arena */
     CUFFGARNET_SPENT = 11,    /* reserve of a key that is not above the mark */
     CUFFGARNET_OLDER = 12     /* restore of an image with a lower mark, without the word that an older one is meant */
@@ -58,9 +60,13 @@ enum cuffgarnet_code {
     CUFFGARNET_RESERVE = 4
 };
 
-/* The sizes of an arena: 10 words and 38 a node, 1 to 65,535 nodes. */
+/* The sizes of an arena: 10 words and 39 a node, 1 to 65,535 nodes. Its first word is the format number. */
+#define CUFFGARNET_FORMAT 2u
 #define CUFFGARNET_LARGEST 65535u
-#define CUFFGARNET_WORDS(nodes) (10u + 38u * (size_t)(nodes))
+#define CUFFGARNET_WORDS(nodes) (10u + 39u * (size_t)(nodes))
+
+/* The same of format 1, which had no count of pairs in a node and 38 words. Only cuffgarnet_upgrade reads it. */
+#define CUFFGARNET_WORDS_FORMAT_1(nodes) (10u + 38u * (size_t)(nodes))
 
 /* Words of the header that a program may read once a check has passed. */
 #define CUFFGARNET_WORD_PAIRS 5 /* how many pairs there are */
@@ -68,7 +74,7 @@ enum cuffgarnet_code {
 #define CUFFGARNET_WORD_SEEN 8  /* 1 if a key was ever put or reserved, else 0 */
 #define CUFFGARNET_WORD_MARK 9  /* the largest key ever put, reserved or restored; no call but format lowers it */
 
-/* Formats n words as an empty arena, and forgets the mark. 0; 7 if n is not 10 + 38 N for an N of 1 to 65,535. */
+/* Formats n words as an empty arena, and forgets the mark. 0; 7 if n is not 10 + 39 N for an N of 1 to 65,535. */
 uint64_t cuffgarnet_format(uint64_t *arena, uint64_t n);
 
 /* Whether the words are a well-formed arena: its structure, not its values. 0; 4 if not. Changes nothing. */
@@ -97,6 +103,19 @@ uint64_t cuffgarnet_order(uint64_t *arena, uint64_t n, uint64_t code, uint64_t k
 uint64_t cuffgarnet_list(const uint64_t *arena, uint64_t n, uint64_t start_kind, uint64_t start, uint64_t end_kind,
                          uint64_t end, uint64_t *out, uint64_t out_n, uint64_t *written, uint64_t *more);
 
+/* How many keys are smaller than a key, which may be present or not. 0 and the number; 4 and 0. Changes nothing. Behind the check it
+ * costs one way down the tree, however many pairs are counted. */
+uint64_t cuffgarnet_rank(const uint64_t *arena, uint64_t n, uint64_t key, uint64_t *second);
+
+/* How many pairs a range has: as many as a listing with room for all would write. 0 and the number; 4 or 5 and 0. Changes nothing.
+ * Behind the check it costs two ways down the tree. */
+uint64_t cuffgarnet_count(const uint64_t *arena, uint64_t n, uint64_t start_kind, uint64_t start, uint64_t end_kind,
+                          uint64_t end, uint64_t *second);
+
+/* The pair at a rank, the smallest key's being 0. 1 with key and value; 2 with 0 and 0 if there are no more than `rank` pairs; 4 with
+ * 0 and 0. Changes nothing. Behind the check it costs one way down the tree. */
+uint64_t cuffgarnet_at(const uint64_t *arena, uint64_t n, uint64_t rank, uint64_t *key, uint64_t *value);
+
 /* Runs orders in turn, three words each: code, key, value. Each gets two words of answers, its number and second word,
  * as the single call would answer; a refused one does not stop the rest. 0; 7 if orders_n is no multiple of 3 or
  * answers_n is not 2 words an order; 4. */
@@ -108,6 +127,12 @@ uint64_t cuffgarnet_batch(uint64_t *arena, uint64_t n, const uint64_t *orders, u
  * arena has seen one) and `older` is not 1. The image does not change. A restore that is killed may have lowered
  * the mark, so restore into a copy of the arena's file and rename it. */
 uint64_t cuffgarnet_restore(uint64_t *arena, uint64_t n, const uint64_t *image, uint64_t image_n, uint64_t older);
+
+/* Writes an arena of format 1 into a second slice, in format 2: the same nodes at the same numbers, the same free nodes, pairs and
+ * mark, and each node's count. The target's old words do not matter, a mark in them is forgotten. The source does not change. 0; 4 if
+ * the source is not a well-formed arena of format 1 (one of format 2 is none, and one whose free chain does not rise neither); then 7
+ * if the target has not 10 + 39 N words for the source's N. No other call takes format 1: they answer 4, or 8 to it as an image. */
+uint64_t cuffgarnet_upgrade(const uint64_t *source, uint64_t source_n, uint64_t *target, uint64_t target_n);
 
 #ifdef __cplusplus
 }

@@ -48,13 +48,13 @@ def puts(a, pairs):
 
 
 def no_arena():
-    a = [7] * 48
+    a = [7] * 49
     run(a, [1, 5, 50, 1], [9, 9])
     run(a, [1, 5, 50], [9, 9, 9])
     run(a, [1, 5, 50], [9, 9])
     run(a, [], [])
-    a = bring_back(a, [7] * 86, False)
-    a = bring_back(a, [7] * 48, False)
+    a = bring_back(a, [7] * 88, False)
+    a = bring_back(a, [7] * 49, False)
 
 
 def no_image():
@@ -62,7 +62,7 @@ def no_image():
     wrong = image.words()
     wrong[5] = 1
     run(a, [1, 5, 50], [9, 9])
-    a = bring_back(a, [7] * 86, False)
+    a = bring_back(a, [7] * 88, False)
     a = bring_back(a, wrong, False)
     run(a, [2, 5, 0, 1], [9, 9])
     run(a, [2, 5, 0], [9, 9])

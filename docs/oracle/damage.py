@@ -7,7 +7,7 @@ for the same arena, damaged in the same way, is compared with this list at each 
 """
 NONE = 4294967295
 LARGEST = 65535
-WORDS = 38
+WORDS = 39
 HEADER = 10
 
 
@@ -19,7 +19,7 @@ def well_formed(w):
     if len(w) < HEADER:
         return False
     number, count, offset, root, height, pairs, first_free, free, seen, mark = w[:HEADER]
-    if number != 1 or offset != HEADER:
+    if number != 2 or offset != HEADER:
         return False
     if not 1 <= count <= LARGEST or len(w) != HEADER + WORDS * count:
         return False
@@ -47,11 +47,14 @@ def well_formed(w):
         edges = length + 1 if state == 2 else 0
         if any(x[4 + length : 15]) or any(x[15 + length : 26]) or any(x[26 + edges : 38]):
             return False
+        before = len(keys)
         for i in range(length):
             if state == 2 and not sound(x[26 + i], n, i, depth + 1):
                 return False
             keys.append(x[4 + i])
-        return state == 1 or sound(x[26 + length], n, length, depth + 1)
+        if state == 2 and not sound(x[26 + length], n, length, depth + 1):
+            return False
+        return x[38] == len(keys) - before
 
     if not sound(root, NONE, 0, 0):
         return False
@@ -81,10 +84,10 @@ def well_formed(w):
 
 
 def formatted(count):
-    w = [1, count, HEADER, 0, 0, 0, 1 if count > 1 else NONE, count - 1, 0, 0]
-    w += [1, 0, NONE] + [0] * 35
+    w = [2, count, HEADER, 0, 0, 0, 1 if count > 1 else NONE, count - 1, 0, 0]
+    w += [1, 0, NONE] + [0] * 36
     for n in range(1, count):
-        w += [0, 0, n + 1 if n + 1 < count else NONE] + [0] * 35
+        w += [0, 0, n + 1 if n + 1 < count else NONE] + [0] * 36
     return w
 
 
@@ -97,6 +100,7 @@ def leaf(w, n, index, keys):
     w[b : b + 4] = [1, len(keys), 3, index]
     w[b + 4 : b + 4 + len(keys)] = keys
     w[b + 15 : b + 15 + len(keys)] = [k + 100 for k in keys]
+    w[b + 38] = len(keys)
 
 
 def tree():
@@ -110,6 +114,7 @@ def tree():
     w[b : b + 5] = [2, 1, NONE, 0, 7]
     w[b + 15] = 107
     w[b + 26 : b + 28] = [0, 4]
+    w[b + 38] = 12
     return w
 
 
@@ -121,7 +126,8 @@ def every_word(w):
 
 def short_leaf(w):
     b = HEADER + WORDS * 4
-    w[5], w[b + 1], w[b + 8], w[b + 19] = 11, 4, 0, 0
+    w[5], w[b + 1], w[b + 8], w[b + 19], w[b + 38] = 11, 4, 0, 0, 4
+    w[HEADER + WORDS * 3 + 38] = 11
 
 
 def lost_node(w):
@@ -132,9 +138,9 @@ def lost_node(w):
 def empty_root(w):
     w[5], w[7] = 6, 3
     b = HEADER + WORDS * 3
-    w[b : b + WORDS] = [2, 0, NONE] + [0] * 35
+    w[b : b + WORDS] = [2, 0, NONE] + [0] * 35 + [6]
     b = HEADER + WORDS * 4
-    w[b : b + WORDS] = [0, 0, NONE] + [0] * 35
+    w[b : b + WORDS] = [0, 0, NONE] + [0] * 36
     w[HEADER + WORDS * 2 + 2] = 4
 
 
@@ -144,18 +150,23 @@ def falling(w):
     w[HEADER + WORDS * 2 + 2] = 1
 
 
+def shifted_counts(w):
+    w[HEADER + WORDS * 0 + 38] = 7
+    w[HEADER + WORDS * 4 + 38] = 4
+
+
 def main():
     print("".join("%d " % x for x in formatted(2)))
     every_word(formatted(1))
-    w = [7] * 200
-    for k in range(201):
+    w = [7] * 205
+    for k in range(206):
         count, rest = divmod(k - HEADER, WORDS)
         good = rest == 0 and 1 <= count <= LARGEST
         if good:
             w[:k] = formatted(count)
         print("07"[not good] + "04"[not well_formed(w[:k])])
     every_word(tree())
-    for made in short_leaf, lost_node, empty_root, falling:
+    for made in short_leaf, lost_node, empty_root, falling, shifted_counts:
         w = tree()
         made(w)
         print("04"[not well_formed(w)])

@@ -195,20 +195,25 @@ class Tree:
         del self.nodes[n]
         self.free = sorted(self.free + [n])
 
+    def below(self, n):
+        """The pairs in node n and below it."""
+        node = self.nodes[n]
+        return len(node.keys) + sum(self.below(c) for c in node.edges)
+
     def words(self):
         links = {self.root: (NONE, 0)}
         for n, node in self.nodes.items():
             for i, c in enumerate(node.edges):
                 links[c] = (n, i)
         first = self.free[0] if self.free else NONE
-        w = [1, self.count, 10, self.root, self.height, self.pairs, first, len(self.free), self.seen, self.mark]
+        w = [2, self.count, 10, self.root, self.height, self.pairs, first, len(self.free), self.seen, self.mark]
         pad = lambda l, k: l + [0] * (k - len(l))
         for n in range(self.count):
             if n in self.nodes:
                 node = self.nodes[n]
                 w += [1 if node.leaf else 2, len(node.keys), *links[n]]
-                w += pad(node.keys, MOST) + pad(node.vals, MOST) + pad(node.edges, MOST + 1)
+                w += pad(node.keys, MOST) + pad(node.vals, MOST) + pad(node.edges, MOST + 1) + [self.below(n)]
             else:
                 i = self.free.index(n)
-                w += pad([0, 0, self.free[i + 1] if i + 1 < len(self.free) else NONE], 38)
+                w += pad([0, 0, self.free[i + 1] if i + 1 < len(self.free) else NONE], 39)
         return w

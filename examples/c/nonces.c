@@ -60,6 +60,17 @@ int main(void) {
     say("delete 2", number, second);
     list_all();
 
+    /* how many messages between two counters, and which comes at a place: by the counts in the nodes, with no walk over the pairs */
+    number = cuffgarnet_count(arena, N, CUFFGARNET_INCLUDED, 2, CUFFGARNET_INCLUDED, 9, &second);
+    say("count from 2 to 9", number, second);
+    number = cuffgarnet_rank(arena, N, 9, &second);
+    say("rank of 9", number, second);
+    uint64_t key, value;
+    number = cuffgarnet_at(arena, N, second, &key, &value);
+    say("key at that rank", number, key);
+    number = cuffgarnet_at(arena, N, 3, &key, &value);
+    say("key at rank 3", number, key);
+
     say("restore", cuffgarnet_restore(arena, N, image, N, 0), 0);
     say("restore, an older one is meant", cuffgarnet_restore(arena, N, image, N, CUFFGARNET_OLDER_IS_MEANT), 0);
     list_all();
@@ -82,7 +93,7 @@ int main(void) {
     say("a bound of kind 3", number, written);
     number = cuffgarnet_list(arena, N, CUFFGARNET_INCLUDED, 6, CUFFGARNET_INCLUDED, 5, answers, 8, &written, &more);
     say("from 6 to 5", number, written);
-    say("format 47 words", cuffgarnet_format(image, 47), 0);
+    say("format 48 words", cuffgarnet_format(image, 48), 0);
     image[CUFFGARNET_WORD_PAIRS] += 1;
     say("restore a damaged image", cuffgarnet_restore(arena, N, image, N, CUFFGARNET_OLDER_IS_MEANT), 0);
     say("no words at all", cuffgarnet_check(NULL, 0), 0);

@@ -265,7 +265,7 @@ impl<'s> Map<'s> {
             }
             None => {
                 let first = chain.remove(0);
-                words::write_node(&mut w, first, 1, &[], NONE, 0);
+                words::write_node(&mut w, first, 1, &[], NONE, 0, 0);
                 (first, 0)
             }
         };
@@ -291,14 +291,19 @@ impl<'s> Map<'s> {
             })
             .collect();
         match node.force() {
-            Leaf(_) => words::write_node(w, n, 1, &pairs, parent, index),
+            Leaf(_) => words::write_node(w, n, 1, &pairs, parent, index, 0),
             Internal(internal) => {
-                words::write_node(w, n, 2, &pairs, parent, index);
+                // marks the node as met
+                w[base] = 2;
+                let mut below = 0;
                 for i in 0..=internal.len() {
                     let child = unsafe { Handle::new_edge(internal, i) }.descend();
-                    w[base + words::EDGES + i] = self.number(child);
+                    let number = self.number(child);
+                    w[base + words::EDGES + i] = number;
                     self.write(child, w);
+                    below += words::node(w, number)[words::COUNT];
                 }
+                words::write_node(w, n, 2, &pairs, parent, index, below);
             }
         }
     }

@@ -25,7 +25,8 @@ fn singles(totals: &mut Totals, fault: Option<Fault>, kind: Kind, count: usize, 
 fn one_range(totals: &mut Totals, pair: &mut Pair<'_>, source: &mut Source) -> Result<(), String> {
     let (start, end) = source.range(&pair.rust);
     let long = source.random.below(60) as usize;
-    pair.list(totals, start, end, long)
+    pair.list(totals, start, end, long)?;
+    pair.ranks(totals, start, end)
 }
 
 /// A history of batches, all words compared after each; now and then an image is kept, and restored later: over what the history became, or

@@ -2,7 +2,7 @@
 
 use crate::ffi;
 /// `raw_batch`: of any words, whole orders or not.
-pub use crate::ffi::{batch as raw_batch, check, format, restore};
+pub use crate::ffi::{batch as raw_batch, check, format, restore, upgrade};
 
 /// The call of an order's own; there is none for an unknown code.
 pub fn single(a: &mut [u64], [code, key, value]: [u64; 3]) -> (u64, u64) {
@@ -35,4 +35,22 @@ pub fn batch(a: &mut [u64], orders: &[[u64; 3]]) -> (u64, Vec<(u64, u64)>) {
 pub fn list(a: &[u64], start: (u64, u64), end: (u64, u64), out: &mut [u64]) -> (u64, u64, u64) {
     let told = ffi::list(a, start, end, out);
     (told.number, told.written, told.more)
+}
+
+/// How many keys are smaller than this one.
+pub fn rank(a: &[u64], key: u64) -> (u64, u64) {
+    let said = ffi::rank(a, key);
+    (said.number, said.second)
+}
+
+/// How many pairs a range has.
+pub fn count(a: &[u64], start: (u64, u64), end: (u64, u64)) -> (u64, u64) {
+    let said = ffi::count(a, start, end);
+    (said.number, said.second)
+}
+
+/// The pair at a rank: its number, key and value.
+pub fn at(a: &[u64], rank: u64) -> (u64, u64, u64) {
+    let picked = ffi::at(a, rank);
+    (picked.number, picked.key, picked.value)
 }

@@ -26,10 +26,14 @@ pub enum Fault {
     Twice,
     /// A restore of an older image reaches our index with the yes that was not given.
     Meant,
+    /// A rank counts the key itself, where it is present.
+    Itself,
+    /// After an order the root's count is one too many: the words are no arena.
+    Count,
 }
 
 impl Fault {
-    pub const NAMES: [&str; 7] = ["value", "kept", "chain", "halves", "more", "twice", "meant"];
+    pub const NAMES: [&str; 9] = ["value", "kept", "chain", "halves", "more", "twice", "meant", "itself", "count"];
 
     pub fn named(name: &str) -> Option<Fault> {
         Some(match name {
@@ -40,6 +44,8 @@ impl Fault {
             "more" => Fault::More,
             "twice" => Fault::Twice,
             "meant" => Fault::Meant,
+            "itself" => Fault::Itself,
+            "count" => Fault::Count,
             _ => return None,
         })
     }
@@ -77,6 +83,9 @@ pub struct Totals {
     pub refused_arenas: u64,
     /// Reserves around the mark, by each way to ask, held against the rule alone.
     pub reserves: u64,
+    /// Ranks, counts and pairs at a rank, held against the plain list of the Rust's pairs; upgrades of format 1.
+    pub ranks: u64,
+    pub upgrades: u64,
     /// Border repairs, forks and steps along pairs, where they can be called.
     pub borders: u64,
     pub forks: u64,
@@ -116,6 +125,7 @@ impl fmt::Display for Totals {
         )?;
         writeln!(f, "lengths and damaged arenas asked {}, of them no arenas {}", self.refusals, self.refused_arenas)?;
         writeln!(f, "reserves around the mark, by the rule alone: {}", self.reserves)?;
+        writeln!(f, "ranks, counts and pairs at a rank, by the plain list: {}; upgrades of format 1: {}", self.ranks, self.upgrades)?;
         if cfg!(inner) {
             writeln!(f, "border repairs {}, forks {}, steps along pairs {}", self.borders, self.forks, self.steps)?;
         }
@@ -183,6 +193,10 @@ impl<'s> Pair<'s> {
             self.ours[at(first)] = third;
             self.ours[words::FIRST_FREE] = second;
         }
+        if self.due(totals, Fault::Count) {
+            let root = self.ours[words::ROOT] as usize;
+            self.ours[words::HEADER + words::WORDS * root + words::COUNT] += 1;
+        }
         if self.ours[words::HEIGHT] >= 1 && self.due(totals, Fault::Halves) {
             self.move_one();
         }
@@ -206,8 +220,10 @@ impl<'s> Pair<'s> {
             a[root + part] = a[l + part + n - 1];
             a[l + part + n - 1] = 0;
         }
-        a[l + words::LEN] -= 1;
-        a[r + words::LEN] += 1;
+        for word in [words::LEN, words::COUNT] {
+            a[l + word] -= 1;
+            a[r + word] += 1;
+        }
     }
 
     fn answer(&mut self, totals: &mut Totals, order: [u64; 3], ours: (u64, u64), rust: (u64, u64)) -> Result<(), String> {
@@ -313,6 +329,56 @@ impl<'s> Pair<'s> {
                 "listing from {start:?} to {finish:?} into {long} words: ours {:?} {out:?}, the Rust {said:?} {wanted:?}",
                 (number, written, more)
             ));
+        }
+        Ok(())
+    }
+
+    /// Rank, count and pair at a rank, by the plain list of the Rust's pairs; and the upgrade of the same arena in format 1, which must give
+    /// these words back. The bounds' keys are taken as keys and as ranks.
+    pub fn ranks(&mut self, totals: &mut Totals, start: (u64, u64), finish: (u64, u64)) -> Result<(), String> {
+        let list: Vec<(u64, u64)> = self.rust.map.places().into_iter().map(|(k, v, ..)| (k, v)).collect();
+        let admits = |key: u64| match start.0 {
+            0 => true,
+            1 => start.1 <= key,
+            _ => start.1 < key,
+        } && match finish.0 {
+            0 => true,
+            1 => key <= finish.1,
+            _ => key < finish.1,
+        };
+        let wanted = if bad(start, finish) { (5, 0) } else { (0, list.iter().filter(|p| admits(p.0)).count() as u64) };
+        let said = ours::count(&self.ours, start, finish);
+        totals.ranks += 1;
+        if said != wanted {
+            return Err(format!("count from {start:?} to {finish:?}: {said:?}, not {wanted:?}"));
+        }
+        let long = list.len() as u64;
+        let middle = list.get(list.len() / 2).map_or(0, |p| p.0);
+        for key in [start.1, finish.1, middle, 0, u64::MAX] {
+            let mut said = ours::rank(&self.ours, key);
+            let there = list.binary_search_by_key(&key, |p| p.0);
+            if there.is_ok() && self.due(totals, Fault::Itself) {
+                said.1 += 1;
+            }
+            let rank = there.unwrap_or_else(|rank| rank) as u64;
+            totals.ranks += 1;
+            if said != (0, rank) {
+                return Err(format!("rank of {key}: {said:?}, not {rank}"));
+            }
+            for rank in [rank, key, key % (long + 2), long.saturating_sub(1), long] {
+                let wanted = usize::try_from(rank).ok().and_then(|i| list.get(i)).map_or((2, 0, 0), |p| (1, p.0, p.1));
+                let said = ours::at(&self.ours, rank);
+                totals.ranks += 1;
+                if said != wanted {
+                    return Err(format!("the pair at rank {rank}: {said:?}, not {wanted:?}"));
+                }
+            }
+        }
+        let mut target = vec![7; self.ours.len()];
+        let number = ours::upgrade(&words::old(&self.ours), &mut target);
+        totals.upgrades += 1;
+        if number != 0 || target != self.ours {
+            return Err(format!("upgrade of the same arena in format 1: {number}"));
         }
         Ok(())
     }

@@ -26,16 +26,18 @@ pub fn all(totals: &mut Totals) -> Result<(), String> {
     }
     short(totals)?;
     chains(totals)?;
-    reserves(totals)
+    reserves(totals)?;
+    upgrades(totals)
 }
 
 /// Formatting at every small length; a batch and an image of every wrong one.
 fn sizes(totals: &mut Totals) -> Result<(), String> {
-    for long in (0..=200).chain([2_490_339, 2_490_340, 2_490_341, 2_490_378]) {
-        let good = long >= 48 && (long - 10) % 38 == 0 && (long - 10) / 38 <= 65_535;
+    // 48, 86 and 2,490,340 are format 1's; 1,492 is one of each
+    for long in (0..=200).chain([1492, 2_490_340, 2_555_874, 2_555_875, 2_555_876, 2_555_914]) {
+        let good = long >= 49 && (long - 10) % 39 == 0 && (long - 10) / 39 <= 65_535;
         let mut w = vec![7; long];
         let number = ours::format(&mut w);
-        let wanted = if good { words::formatted((long - 10) / 38) } else { vec![7; long] };
+        let wanted = if good { words::formatted((long - 10) / 39) } else { vec![7; long] };
         totals.refusals += 1;
         if number != (if good { 0 } else { 7 }) || w != wanted {
             return Err(format!("format of {long} words: {number}"));
@@ -65,13 +67,14 @@ fn sizes(totals: &mut Totals) -> Result<(), String> {
         }
     }
     for (long, arena_bad, image_bad, wanted) in [
-        (86, false, false, 0),
-        (85, true, true, 7),
-        (86, true, true, 4),
-        (86, false, true, 8),
-        (48, false, false, 7),
-        (87, false, false, 7),
-        (124, false, false, 7),
+        (88, false, false, 0),
+        (87, true, true, 7),
+        (88, true, true, 4),
+        (88, false, true, 8),
+        (49, false, false, 7),
+        (86, false, false, 7),
+        (89, false, false, 7),
+        (127, false, false, 7),
     ] {
         // an image that is older comes after all of them, and only where the word is no yes
         for (marked, older) in [false, true].into_iter().flat_map(|marked| WORDS.map(|older| (marked, older))) {
@@ -85,7 +88,7 @@ fn sizes(totals: &mut Totals) -> Result<(), String> {
             let number = ours::restore(&mut w, &image, older);
             totals.refusals += 1;
             if number != wanted || w != before || image != kept {
-                return Err(format!("restore of {long} words with the word {older}: {number}, wanted {wanted}; {:?}", &w[..10]));
+                return Err(format!("restore of {long} words with the word {older}: {number}, not {wanted}"));
             }
         }
     }
@@ -174,8 +177,9 @@ fn short(totals: &mut Totals) -> Result<(), String> {
         let mut out = [9; 8];
         let said = ours::list(&whole, start, end, &mut out);
         totals.refusals += 1;
-        if said != (5, 0, 0) || out != [9; 8] {
-            return Err(format!("a listing from {start:?} to {end:?} says {said:?}"));
+        let count = ours::count(&whole, start, end);
+        if said != (5, 0, 0) || out != [9; 8] || count != (5, 0) {
+            return Err(format!("from {start:?} to {end:?} a listing says {said:?}, a count {count:?}"));
         }
     }
     Ok(())
@@ -256,6 +260,88 @@ fn reserves(totals: &mut Totals) -> Result<(), String> {
     Ok(())
 }
 
+/// Arenas of format 1 by request (ix)'s rule alone: upgraded into words of any kind they are the arena of format 2, and no other call takes
+/// them; each word changed in several ways, free chains in every order, format 2 in their place, targets of other lengths.
+fn upgrades(totals: &mut Totals) -> Result<(), String> {
+    let mut random = Random::new(12);
+    let leaves = |row: &[usize]| Plan::Inner(row.iter().map(|n| Plan::Leaf(*n)).collect());
+    let mut wholes = vec![words::formatted(1), words::formatted(3), words::formatted(39)];
+    for plan in [
+        Plan::Leaf(0),
+        Plan::Leaf(11),
+        leaves(&[11, 5, 7]),
+        Plan::Inner(vec![leaves(&[5, 6, 5, 7, 5, 5]), leaves(&[5, 5, 8, 5, 5, 11])]),
+    ] {
+        wholes.extend([0, 3].map(|spare| plan.words(spare, &mut random)));
+    }
+    for whole in wholes {
+        let old = words::old(&whole);
+        if !words::old_formed(&old) || words::well_formed(&old) || words::old_formed(&whole) {
+            return Err(format!("one format is read as the other: {whole:?}"));
+        }
+        let damaged = |i: usize, x: u64| {
+            let mut w = whole.clone();
+            w[i] = x;
+            w
+        };
+        // a word of format 2 that is changed is changed in format 1 too, where it has it
+        for i in 1..whole.len() {
+            let v = whole[i];
+            for x in [v, v ^ 1, v.wrapping_add(1), v.wrapping_sub(1), 0, 1, 2, 5, 12, whole[1], words::NONE, u64::MAX] {
+                let w = damaged(i, x);
+                upgrade(totals, &words::old(&w), w.len()).map_err(|why| format!("word {i} of {whole:?} made {x}: {why}"))?;
+            }
+        }
+        for format in [0, 2, 3, u64::MAX] {
+            let mut w = old.clone();
+            w[0] = format;
+            upgrade(totals, &w, whole.len()).map_err(|why| format!("format {format} of {whole:?}: {why}"))?;
+        }
+        // format 2, under either number
+        upgrade(totals, &whole, whole.len())?;
+        upgrade(totals, &damaged(0, 1), whole.len())?;
+        for long in [0, 1, 9] {
+            upgrade(totals, &old[..long], whole.len())?;
+        }
+        upgrade(totals, &old[..old.len() - 1], whole.len())?;
+        // no other call
+        let mut a = old.clone();
+        let number = [ours::check(&old), ours::single(&mut a, [1, 1, 1]).0, ours::single(&mut a, [3, 2, 0]).0, ours::rank(&old, 1).0];
+        if number != [4; 4] || a != old {
+            return Err(format!("format 1 is answered {number:?}"));
+        }
+        // 39 nodes of format 1 are as long as 38 of format 2
+        let other = words::formatted(38);
+        let mut a = other.clone();
+        let number = ours::restore(&mut a, &old, 1);
+        if number != (if old.len() == other.len() { 8 } else { 7 }) || a != other {
+            return Err(format!("an image of format 1 with {} nodes is answered {number}", whole[1]));
+        }
+    }
+    Ok(())
+}
+
+/// One upgrade into targets of lengths around this one: 4 if the source is none of format 1, then 7; else the words of format 2.
+fn upgrade(totals: &mut Totals, source: &[u64], near: usize) -> Result<(), String> {
+    let good = words::old_formed(source);
+    for long in [near, source.len(), near + words::WORDS, near - 1, 0] {
+        let mut target = vec![7; long];
+        let kept = source.to_vec();
+        let number = ours::upgrade(source, &mut target);
+        let said = match (good, good && long == words::long(source[1] as usize)) {
+            (false, _) => 4,
+            (true, false) => 7,
+            (true, true) => 0,
+        };
+        totals.upgrades += 1;
+        let left = if said == 0 { words::upgraded(source) } else { vec![7; long] };
+        if number != said || target != left || kept != source {
+            return Err(format!("upgrade into {long} words: {number}, not {said}"));
+        }
+    }
+    Ok(())
+}
+
 /// Every call on words that may be no arena; `image` is one of the same length.
 fn one(totals: &mut Totals, w: &[u64], image: &[u64]) -> Result<(), String> {
     let good = words::well_formed(w);
@@ -290,6 +376,14 @@ fn one(totals: &mut Totals, w: &[u64], image: &[u64]) -> Result<(), String> {
         let said = ours::list(w, start, end, &mut out);
         if said != (4, 0, 0) || out != [9; 8] {
             return Err(format!("a listing says {said:?}"));
+        }
+    }
+    // a bad range comes after it here too
+    for (start, end) in [((0, 0), (0, 0)), ((1, 6), (1, 5)), ((3, 0), (0, 0))] {
+        let said = [ours::count(w, start, end), ours::rank(w, end.1)];
+        let at = ours::at(w, start.1);
+        if said != [(4, 0); 2] || at != (4, 0, 0) {
+            return Err(format!("count and rank say {said:?}, the pair at a rank {at:?}"));
         }
     }
     for word in [0, 1] {

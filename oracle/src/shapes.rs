@@ -48,20 +48,21 @@ impl Plan {
         match self {
             Plan::Leaf(len) => {
                 let pairs: Vec<_> = (0..*len).map(|_| next()).collect();
-                words::write_node(w, n, 1, &pairs, parent, index);
+                words::write_node(w, n, 1, &pairs, parent, index, 0);
             }
             Plan::Inner(children) => {
                 let base = words::HEADER + words::WORDS * n as usize;
-                let mut pairs = Vec::new();
+                let (mut pairs, mut below) = (Vec::new(), 0);
                 for (i, child) in children.iter().enumerate() {
                     let number = child.lay(w, numbers, key, n, i as u64);
                     w[base + words::EDGES + i] = number;
+                    below += words::node(w, number)[words::COUNT];
                     if i + 1 < children.len() {
                         *key += 2;
                         pairs.push((*key, *key + 1000));
                     }
                 }
-                words::write_node(w, n, 2, &pairs, parent, index);
+                words::write_node(w, n, 2, &pairs, parent, index, below);
             }
         }
         n
@@ -229,6 +230,7 @@ fn ranges(totals: &mut Totals, pair: &mut Pair<'_>, pairs: u64, scale: u64) -> R
             for long in [0, 1, 2, 7, 2 * pairs as usize, 2 * pairs as usize + 3] {
                 pair.list(totals, *start, *end, long)?;
             }
+            pair.ranks(totals, *start, *end)?;
         }
     }
     Ok(())

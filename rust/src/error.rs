@@ -1,16 +1,16 @@
 //! The refusals, and how a call's number becomes a result.
 
-use crate::ffi::Said;
+use crate::ffi::{Picked, Said};
 use std::fmt;
 
 /// Why a call was refused. A refused call has changed no word. Where several would fit, the first of BadSize, BadArena,
-/// BadImage, Older, BadRange, BadOrder, NoRoom or Spent is given.
+/// BadImage, Older, BadRange, BadOrder, NoRoom or Spent is given; only the upgrade has BadSize behind BadArena.
 #[derive(Clone, Copy, Debug, Eq, Hash, PartialEq)]
 #[non_exhaustive]
 pub enum Error {
     /// 3: the insertion of an absent key lacks nodes.
     NoRoom,
-    /// 4: the words are not a well-formed arena.
+    /// 4: the words are not a well-formed arena of format 2; of format 1, in the upgrade.
     BadArena,
     /// 5: a range whose start is above its end, or equal to it with both excluded.
     BadRange,
@@ -95,5 +95,20 @@ pub(crate) fn value(said: Said) -> Result<Option<u64>, Error> {
         0 | 2 => Ok(None),
         1 => Ok(Some(said.second)),
         _ => Err(Error::of(said.number)),
+    }
+}
+
+/// Of a call that answers 0 with a number, or a refusal. No number that is told is above the number of pairs.
+pub(crate) fn number(said: Said) -> Result<usize, Error> {
+    done(said.number)?;
+    Ok(said.second as usize)
+}
+
+/// Of a pair at a rank: 1 comes with a pair, 2 with none.
+pub(crate) fn pair(picked: Picked) -> Result<Option<(u64, u64)>, Error> {
+    match picked.number {
+        1 => Ok(Some((picked.key, picked.value))),
+        2 => Ok(None),
+        _ => Err(Error::of(picked.number)),
     }
 }

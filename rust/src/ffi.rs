@@ -21,6 +21,17 @@ unsafe extern "C" {
         written: *mut u64,
         more: *mut u64,
     ) -> u64;
+    fn cuffgarnet_rank(arena: *const u64, n: u64, key: u64, second: *mut u64) -> u64;
+    fn cuffgarnet_count(
+        arena: *const u64,
+        n: u64,
+        start_kind: u64,
+        start: u64,
+        end_kind: u64,
+        end: u64,
+        second: *mut u64,
+    ) -> u64;
+    fn cuffgarnet_at(arena: *const u64, n: u64, rank: u64, key: *mut u64, value: *mut u64) -> u64;
     fn cuffgarnet_batch(
         arena: *mut u64,
         n: u64,
@@ -30,6 +41,7 @@ unsafe extern "C" {
         answers_n: u64,
     ) -> u64;
     fn cuffgarnet_restore(arena: *mut u64, n: u64, image: *const u64, image_n: u64, older: u64) -> u64;
+    fn cuffgarnet_upgrade(source: *const u64, source_n: u64, target: *mut u64, target_n: u64) -> u64;
 }
 
 /// What a word holds before a call writes it, as every call does; not 0, so that oracle/ would notice one left unwritten.
@@ -48,7 +60,14 @@ pub struct Told {
     pub more: u64,
 }
 
-// SAFETY, of every call below: the pointers and lengths are those of slices and of a local word, so they are aligned and
+/// The number of a pair at a rank, and the pair.
+pub struct Picked {
+    pub number: u64,
+    pub key: u64,
+    pub value: u64,
+}
+
+// SAFETY, of every call below: the pointers and lengths are those of slices and of local words, so they are aligned and
 // valid for that many words; what is written is lent as `&mut`, so it overlaps nothing else and nobody else touches it.
 // The calls have no `requires`: they take any words and end.
 
@@ -108,6 +127,26 @@ pub fn list(arena: &[u64], start: (u64, u64), end: (u64, u64), out: &mut [u64]) 
     Told { number, written, more }
 }
 
+pub fn rank(arena: &[u64], key: u64) -> Said {
+    let mut second = UNWRITTEN;
+    let number = unsafe { cuffgarnet_rank(arena.as_ptr(), arena.len() as u64, key, &mut second) };
+    Said { number, second }
+}
+
+pub fn count(arena: &[u64], start: (u64, u64), end: (u64, u64)) -> Said {
+    let mut second = UNWRITTEN;
+    let number =
+        unsafe { cuffgarnet_count(arena.as_ptr(), arena.len() as u64, start.0, start.1, end.0, end.1, &mut second) };
+    Said { number, second }
+}
+
+pub fn at(arena: &[u64], rank: u64) -> Picked {
+    let mut key = UNWRITTEN;
+    let mut value = UNWRITTEN;
+    let number = unsafe { cuffgarnet_at(arena.as_ptr(), arena.len() as u64, rank, &mut key, &mut value) };
+    Picked { number, key, value }
+}
+
 pub fn batch(arena: &mut [u64], orders: &[u64], answers: &mut [u64]) -> u64 {
     unsafe {
         cuffgarnet_batch(
@@ -123,4 +162,8 @@ pub fn batch(arena: &mut [u64], orders: &[u64], answers: &mut [u64]) -> u64 {
 
 pub fn restore(arena: &mut [u64], image: &[u64], older: u64) -> u64 {
     unsafe { cuffgarnet_restore(arena.as_mut_ptr(), arena.len() as u64, image.as_ptr(), image.len() as u64, older) }
+}
+
+pub fn upgrade(source: &[u64], target: &mut [u64]) -> u64 {
+    unsafe { cuffgarnet_upgrade(source.as_ptr(), source.len() as u64, target.as_mut_ptr(), target.len() as u64) }
 }

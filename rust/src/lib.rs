@@ -19,9 +19,18 @@
 //! # What a call costs
 //!
 //! The words may come from anywhere, so **every call but formatting first checks the whole arena**: whatever the key, it
-//! reads each node once. On the x86-64 machine of docs/SPEED.md that takes 18 nanoseconds a full node and 6 a free one while the
-//! arena is in the caches, and about three times as long where it is not. [`Index::apply`] checks once for a whole batch of
+//! reads each node once. On the x86-64 machine of docs/SPEED.md that took 18 nanoseconds a full node and 6 a free one (of format 1,
+//! a word shorter) while the arena is in the caches, and about three times as long where it is not. [`Index::apply`] checks once for a whole batch of
 //! orders: use it wherever there is more than one thing to do. docs/OPERATING.md has microseconds a message by batch size.
+//!
+//! Behind the check a call on one key goes one way down the tree, of at most seven nodes. So do [`Index::rank`] and
+//! [`Index::nth`], and [`Index::count`] goes two, however many pairs they count or pass: each node knows how many pairs are below it.
+//! A listing walks over the pairs that it writes.
+//!
+//! # Formats
+//!
+//! The words are in format 2, which has that count in each node. Words of format 1, which had none, are refused with
+//! [`Error::BadArena`] by every call but [`Index::upgrade`], which writes them into words of format 2.
 //!
 //! # What the check sees, and what not
 //!
@@ -57,10 +66,11 @@ use std::ops::RangeBounds;
 /// Words before the first node.
 const HEADER: usize = 10;
 
-/// Words of a node.
-const NODE: usize = 38;
+/// Words of a node. In format 1 it was one less.
+const NODE: usize = 39;
 
 /// Places of the header's words.
+const NODES: usize = 1;
 const PAIRS: usize = 5;
 const FREE: usize = 7;
 const SEEN: usize = 8;
@@ -111,7 +121,7 @@ impl Words for &mut [u64] {
 /// How many words an arena of so many nodes has; `None` if there is no such arena (nodes are 1 to 65,535).
 ///
 /// ```
-/// assert_eq!(cuffgarnet::words_for(2), Some(86));
+/// assert_eq!(cuffgarnet::words_for(2), Some(88));
 /// assert_eq!(cuffgarnet::words_for(0), None);
 /// assert_eq!(cuffgarnet::words_for(65_536), None);
 /// ```
@@ -144,18 +154,36 @@ impl Index {
         let long = words_for(nodes).ok_or(Error::BadSize)?;
         Self::format(vec![0; long])
     }
-}
 
-impl<W: Words> Index<W> {
-    /// Formats words as an empty index, whatever they held. This alone forgets the mark: who formats a lost arena anew puts the
-    /// saved mark first, and removes it again.
+    /// Writes an arena of format 1 into words of its own, in format 2: see [`upgrade`](Index::upgrade).
     ///
     /// # Errors
-    /// [`Error::BadSize`] if their number is not 10 + 38 N for an N of 1 to 65,535. No word has changed then.
+    /// [`Error::BadArena`] if the old words are not a well-formed arena of format 1.
     ///
     /// ```
     /// use cuffgarnet::{Error, Index};
-    /// let mut lent = [7; 86];
+    /// let new = Index::with_nodes(4)?;
+    /// assert_eq!(Index::upgraded(new.words()).err(), Some(Error::BadArena)); // it is of format 2 already
+    /// # Ok::<(), Error>(())
+    /// ```
+    pub fn upgraded(old: &[u64]) -> Result<Self, Error> {
+        // what an arena says of its nodes is not believed here: with a wrong number the call refuses the old words
+        let nodes = old.get(NODES).and_then(|nodes| usize::try_from(*nodes).ok());
+        let long = nodes.and_then(words_for).ok_or(Error::BadArena)?;
+        Self::upgrade(old, vec![0; long])
+    }
+}
+
+impl<W: Words> Index<W> {
+    /// Formats words as an empty index, whatever they held, and forgets the mark: who formats a lost arena anew reserves the saved
+    /// mark first.
+    ///
+    /// # Errors
+    /// [`Error::BadSize`] if their number is not 10 + 39 N for an N of 1 to 65,535. No word has changed then.
+    ///
+    /// ```
+    /// use cuffgarnet::{Error, Index};
+    /// let mut lent = [7; 88];
     /// let mut index = Index::format(&mut lent[..])?;
     /// index.insert(1, 10)?;
     /// assert_eq!(lent[5], 1); // one pair, in the words that were lent
@@ -163,6 +191,34 @@ impl<W: Words> Index<W> {
     /// ```
     pub fn format(mut words: W) -> Result<Self, Error> {
         error::done(ffi::format(words.words_mut()))?;
+        Ok(Index { words })
+    }
+
+    /// Writes an arena of format 1 into these words, in format 2: the same nodes at the same numbers, the same pairs, the same mark,
+    /// and in each node how many pairs are below it. What the words held before does not matter, and a mark in it is forgotten. The
+    /// old words are only read. It costs a check of the old words and one pass over both. [`upgraded`](Index::upgraded) does
+    /// the same into words of its own.
+    ///
+    /// # Errors
+    /// [`Error::BadArena`] if the old words are not a well-formed arena of format 1 (one of format 2 is none, and one whose free
+    /// nodes are not chained in rising order is none either); then [`Error::BadSize`] if there are not 10 + 39 N words for as
+    /// many nodes as the old arena has. No word has changed then.
+    ///
+    /// ```
+    /// use cuffgarnet::{words_for, Error, Index};
+    /// let mut old = vec![0; 10 + 38]; // an arena of format 1 with one node and no pair, which has seen the key 7
+    /// old[..10].copy_from_slice(&[1, 1, 10, 0, 0, 0, 4_294_967_295, 0, 1, 7]);
+    /// old[10..13].copy_from_slice(&[1, 0, 4_294_967_295]);
+    /// assert_eq!(Index::open(old.clone()).err(), Some(Error::BadArena)); // as by every other call
+    /// let mut file = vec![0; words_for(1).ok_or(Error::BadSize)?]; // or the words of a new mapped file
+    /// let mut index = Index::upgrade(&old, &mut file[..])?;
+    /// assert_eq!((index.len()?, index.mark()?), (0, Some(7)));
+    /// index.insert(8, 80)?;
+    /// assert_eq!(Index::upgrade(&file.clone(), file).err(), Some(Error::BadArena)); // it is of format 2 already
+    /// # Ok::<(), Error>(())
+    /// ```
+    pub fn upgrade(old: &[u64], mut words: W) -> Result<Self, Error> {
+        error::done(ffi::upgrade(old, words.words_mut()))?;
         Ok(Index { words })
     }
 
@@ -304,6 +360,68 @@ impl<W: Words> Index<W> {
     /// All pairs in rising order; as [`range`](Self::range) of everything.
     pub fn iter(&self) -> Range<'_> {
         self.range(..)
+    }
+
+    /// How many keys are smaller than a key, which may be present or not. The rank of a present key is its place in rising order, from
+    /// 0 on, and [`nth`](Self::nth) of it is its pair. Behind the check it costs one way down the tree, as a [`get`](Self::get).
+    ///
+    /// # Errors
+    /// [`Error::BadArena`].
+    ///
+    /// ```
+    /// use cuffgarnet::{Error, Index};
+    /// let mut index = Index::with_nodes(4)?;
+    /// for key in [10, 20, 30] {
+    ///     index.insert(key, key + 1)?;
+    /// }
+    /// assert_eq!((index.rank(20)?, index.rank(21)?, index.rank(u64::MAX)?), (1, 2, 3));
+    /// assert_eq!(index.nth(index.rank(20)?)?, Some((20, 21)));
+    /// # Ok::<(), Error>(())
+    /// ```
+    pub fn rank(&self, key: u64) -> Result<usize, Error> {
+        error::number(ffi::rank(self.words.words(), key))
+    }
+
+    /// How many pairs a range has: as many as [`range`](Self::range) lists. Behind the check it costs two ways down the tree, however
+    /// many pairs there are between.
+    ///
+    /// # Errors
+    /// [`Error::BadRange`] where `BTreeMap::range` panics: start above end, or equal and both excluded; [`Error::BadArena`].
+    ///
+    /// ```
+    /// use cuffgarnet::{Error, Index};
+    /// let mut index = Index::with_nodes(4)?;
+    /// for key in [10, 20, 30] {
+    ///     index.insert(key, key + 1)?;
+    /// }
+    /// assert_eq!((index.count(10..30)?, index.count(10..=30)?, index.count(..)?), (2, 3, 3));
+    /// assert_eq!(index.count(11..20)?, 0);
+    /// assert_eq!(index.count(6..=5), Err(Error::BadRange));
+    /// # Ok::<(), Error>(())
+    /// ```
+    pub fn count(&self, range: impl RangeBounds<u64>) -> Result<usize, Error> {
+        range::count(self.words.words(), range.start_bound().cloned(), range.end_bound().cloned())
+    }
+
+    /// The pair at a rank: the one that so many pairs are before, in rising order. `None` if there are no more pairs than that. Behind the
+    /// check it costs one way down the tree, as a [`get`](Self::get).
+    ///
+    /// # Errors
+    /// [`Error::BadArena`].
+    ///
+    /// ```
+    /// use cuffgarnet::{Error, Index};
+    /// let mut index = Index::with_nodes(4)?;
+    /// for key in [10, 20, 30] {
+    ///     index.insert(key, key + 1)?;
+    /// }
+    /// assert_eq!((index.nth(0)?, index.nth(2)?, index.nth(3)?), (Some((10, 11)), Some((30, 31)), None));
+    /// let middle = index.nth(index.len()? / 2)?;
+    /// assert_eq!(middle, Some((20, 21)));
+    /// # Ok::<(), Error>(())
+    /// ```
+    pub fn nth(&self, rank: usize) -> Result<Option<(u64, u64)>, Error> {
+        error::pair(ffi::at(self.words.words(), rank as u64))
     }
 
     /// Runs one order, as the single call of its kind would.

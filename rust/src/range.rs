@@ -31,6 +31,10 @@ pub(crate) fn list(arena: &[u64], start: Bound<u64>, end: Bound<u64>, out: &mut 
     Ok(Listed { written: told.written as usize, more: told.more == 1 })
 }
 
+pub(crate) fn count(arena: &[u64], start: Bound<u64>, end: Bound<u64>) -> Result<usize, Error> {
+    error::number(ffi::count(arena, asked(start), asked(end)))
+}
+
 /// The pairs of a range, listed page by page: see [`Index::range`](crate::Index::range).
 #[derive(Clone, Debug)]
 pub struct Range<'a> {

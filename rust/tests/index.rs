@@ -133,13 +133,13 @@ fn into_a_buffer() {
 
 #[test]
 fn sizes() {
-    for long in [0, 1, 9, 10, 47, 49, 85, 87] {
+    for long in [0, 1, 9, 10, 48, 50, 86, 87, 89] {
         let mut words = vec![3; long];
         assert_eq!(Index::format(&mut words[..]).err(), Some(Error::BadSize));
         assert!(words.iter().all(|w| *w == 3));
         assert_eq!(Index::open(&mut words[..]).err(), Some(Error::BadArena));
     }
-    assert_eq!(words_for(65_535), Some(2_490_340));
+    assert_eq!(words_for(65_535), Some(2_555_875));
     assert_eq!(Index::with_nodes(usize::MAX).err(), Some(Error::BadSize));
     assert_eq!(Index::with_nodes(65_536).err(), Some(Error::BadSize));
     let largest = Index::with_nodes(65_535).unwrap();
@@ -202,7 +202,7 @@ fn all_refused(words: &mut [u64]) {
     let before = words.to_vec();
     assert_eq!(Index::open(&mut *words).err(), Some(Error::BadArena));
     let mut index = Index::with_nodes(3).unwrap();
-    assert_eq!(index.restore(words), Err(if words.len() == 124 { Error::BadImage } else { Error::BadSize }));
+    assert_eq!(index.restore(words), Err(if words.len() == 127 { Error::BadImage } else { Error::BadSize }));
     assert_eq!(words, before);
 }
 
@@ -234,11 +234,11 @@ fn damage_is_refused_or_harmless() {
 fn random_words_are_refused() {
     let mut rand = Rand(5);
     for turn in 0..2000 {
-        let long = if turn % 2 == 0 { 124 } else { rand.below(300) as usize };
+        let long = if turn % 2 == 0 { 127 } else { rand.below(300) as usize };
         let mut words: Vec<u64> =
             (0..long).map(|_| if rand.below(2) == 0 { rand.below(12) } else { rand.next() }).collect();
         if turn % 4 == 0 {
-            words[0] = 1;
+            words[0] = 2;
             words[1] = 3;
             words[2] = 10;
         }

@@ -1,5 +1,6 @@
 //! What a kill in the middle of a call leaves in a mapped arena. The kill comes at a known moment: a child works on words that
-//! it shares with the test, of which one page may not be written; it dies at the first word that it writes there.
+//! it shares with the test, of which one page may not be written; it dies at the first word that it writes there. The page ends
+//! with a word of our choice, so that the words behind it can be written.
 #![allow(clippy::unwrap_used, clippy::indexing_slicing, clippy::arithmetic_side_effects)]
 
 use cuffgarnet::{Error, Index};
@@ -20,25 +21,27 @@ const SHARED_NO_FILE: c_int = 0x21;
 const PAGE: usize = 512; // words: 4,096 bytes
 const PAIRS: usize = 5;
 
-/// Runs work on the words of an arena in a child that may not write the page of one word; hands out what it leaves.
+/// Runs work on the words of an arena in a child that may write neither one word nor the 511 before it; hands out what it leaves.
 fn killed_at(word: usize, before: &[u64], work: impl Fn(&mut [u64])) -> Vec<u64> {
-    let long = 8 * before.len().next_multiple_of(PAGE);
+    let shift = PAGE - 1 - word % PAGE; // the arena begins so far into the mapping
+    let long = 8 * (shift + before.len()).next_multiple_of(PAGE);
     // SAFETY: the mapping is new, long enough and shared with the child alone, and no slice of it outlives it. The child
     // allocates nothing and ends here.
     unsafe {
         let at = mmap(std::ptr::null_mut(), long, READ | WRITE, SHARED_NO_FILE, -1, 0);
         assert_ne!(at as isize, -1);
-        std::slice::from_raw_parts_mut(at.cast::<u64>(), before.len()).copy_from_slice(before);
+        let arena = at.cast::<u64>().add(shift);
+        std::slice::from_raw_parts_mut(arena, before.len()).copy_from_slice(before);
         let child = fork();
         if child == 0 {
-            mprotect(at.cast::<u64>().add(word / PAGE * PAGE).cast(), 8 * PAGE, READ);
-            work(std::slice::from_raw_parts_mut(at.cast::<u64>(), before.len()));
+            mprotect(at.cast::<u64>().add((shift + word) / PAGE * PAGE).cast(), 8 * PAGE, READ);
+            work(std::slice::from_raw_parts_mut(arena, before.len()));
             _exit(0);
         }
         let mut status = 0;
         assert_eq!(waitpid(child, &mut status, 0), child);
         assert_ne!(status, 0, "the child was not killed");
-        let left = std::slice::from_raw_parts(at.cast::<u64>(), before.len()).to_vec();
+        let left = std::slice::from_raw_parts(arena, before.len()).to_vec();
         munmap(at, long);
         assert_ne!(left, before, "the child was killed before it wrote");
         left
@@ -55,32 +58,37 @@ fn filled(keys: impl Iterator<Item = u64>) -> Index {
 
 /// The first word of a node.
 fn base(node: usize) -> usize {
-    10 + 38 * node
+    10 + 39 * node
 }
 
 #[test]
 fn a_put_that_is_killed_is_refused() {
     let index = filled(1..=200);
-    // the new pair goes to a leaf on another page than the header, whose pair count comes after it
+    // the new pair goes to its leaf, and the counts above it are set, before the header's pair count
     let left = killed_at(PAIRS, index.words(), |words| {
         _ = Index::open(words).and_then(|mut index| index.insert(201, 201));
     });
     assert_eq!(Index::open(left).err(), Some(Error::BadArena));
 }
 
-/// The limit: a delete of a pair in an inner node first takes the pair before it out of its leaf, and in between the arena is
-/// well-formed without that other pair.
+/// The limit: a delete of a pair in an inner node first takes the pair before it out of its leaf, and sets the counts above that.
+/// In between the arena is well-formed without that other pair.
 #[test]
 fn a_delete_that_is_killed_may_lose_another_pair_unseen() {
-    let index = filled(1..=200);
+    let index = filled(1..=120);
     let w = index.words();
-    // an inner node's key that is on another page than the header and the leaf before it
-    let far = |node: usize, leaf: usize| base(node) / PAGE > 0 && (base(leaf) + 37) / PAGE < base(node) / PAGE;
+    // an inner node's key of which the header, the leaf before it and the counts above that are far enough
+    let far = |word: usize, at: usize| at > word || at + PAGE <= word;
+    let fits = |n: usize, i: usize| {
+        let word = base(n) + 4 + i;
+        let leaf = w[base(n) + 26 + i] as usize;
+        let mut path =
+            std::iter::successors(Some(leaf), |n| (w[base(*n) + 2] < 64).then_some(w[base(*n) + 2] as usize));
+        w[base(leaf)] == 1 && far(word, 9) && far(word, base(leaf)) && path.all(|n| far(word, base(n) + 38))
+    };
     let inner = (0..64).filter(|n| w[base(*n)] == 2);
     let mut keys = inner.flat_map(|n| (0..w[base(n) + 1] as usize).map(move |i| (n, i)));
-    let (node, i) = keys
-        .find(|(n, i)| w[base(w[base(*n) + 26 + i] as usize)] == 1 && far(*n, w[base(*n) + 26 + i] as usize))
-        .unwrap();
+    let (node, i) = keys.find(|(n, i)| fits(*n, *i)).unwrap();
     let key = w[base(node) + 4 + i];
 
     let left = killed_at(base(node) + 4 + i, w, |words| {

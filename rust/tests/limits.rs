@@ -67,7 +67,7 @@ fn one_flip_in_seven_is_believed() {
             flips += 1;
             words[at] ^= 1 << bit;
             if Index::open(&mut words[..]).is_ok() {
-                match at.checked_sub(10).map(|w| w % 38) {
+                match at.checked_sub(10).map(|w| w % 39) {
                     Some(15..=25) => values += 1,
                     Some(4..=14) => keys += 1,
                     _ => {
@@ -79,7 +79,7 @@ fn one_flip_in_seven_is_believed() {
             words[at] ^= 1 << bit;
         }
     }
-    assert_eq!((flips, values + keys + marks), (156_288, 22_251));
+    assert_eq!((flips, values + keys + marks), (160_384, 22_251));
     assert_eq!((values, keys, marks), (19_200, 2_995, 56));
 }
 

@@ -23,22 +23,22 @@ fn bring_back(a: &mut [u64], image: &[u64], older: bool) {
 
 // Words that are no arena: 7 comes before 4, and an empty batch still checks.
 fn no_arena() {
-    let mut a = [7; 48];
+    let mut a = [7; 49];
     run(&mut a, &[1, 5, 50, 1], &mut [9, 9]);
     run(&mut a, &[1, 5, 50], &mut [9, 9, 9]);
     run(&mut a, &[1, 5, 50], &mut [9, 9]);
     run(&mut a, &[], &mut []);
-    bring_back(&mut a, &[7; 86], false);
-    bring_back(&mut a, &[7; 48], false);
+    bring_back(&mut a, &[7; 88], false);
+    bring_back(&mut a, &[7; 49], false);
 }
 
 // An image that counts a pair too many is none, and neither is one of another length: the arena keeps its pair.
 fn no_image() {
-    let mut a = [7; 48];
+    let mut a = [7; 49];
     format(&mut a);
     let mut image = a;
     run(&mut a, &[1, 5, 50], &mut [9, 9]);
-    bring_back(&mut a, &[7; 86], false);
+    bring_back(&mut a, &[7; 88], false);
     image[5] = 1;
     bring_back(&mut a, &image, false);
     run(&mut a, &[2, 5, 0, 1], &mut [9, 9]);
@@ -51,7 +51,7 @@ fn no_image() {
 
 // Put 9, copy, put 12, restore the copy, which is refused unless an older one is meant: only 9, mark 12; and of a mark and a higher one the image's.
 fn nonces() {
-    let mut a = [7; 48];
+    let mut a = [7; 49];
     format(&mut a);
     run(&mut a, &[1, 9, 90], &mut [9, 9]);
     let image = a;
@@ -68,7 +68,7 @@ fn nonces() {
 
 // Nothing seen on both sides is not older; a seen mark of 0 is above none.
 fn unseen() {
-    let mut a = [7; 48];
+    let mut a = [7; 49];
     format(&mut a);
     let image = a;
     bring_back(&mut a, &image, false);
@@ -78,7 +78,7 @@ fn unseen() {
 
 // A reserve hands a counter out once; a put below the mark stays allowed; code 5 is none.
 fn reserves() {
-    let mut a = [7; 48];
+    let mut a = [7; 49];
     format(&mut a);
     four(&mut a, &[4, 0, 7, 4, 0, 7, 1, 5, 50, 4, 9, 7]);
     four(&mut a, &[4, 9, 7, 1, 7, 70, 4, 10, 7, 5, 11, 7]);
@@ -86,7 +86,7 @@ fn reserves() {
 
 // One leaf: the twelfth key finds no room, unknown codes are refused, and neither stops the rest.
 fn no_room() {
-    let mut a = [7; 48];
+    let mut a = [7; 49];
     format(&mut a);
     four(&mut a, &[1, 10, 1, 1, 20, 2, 1, 30, 3, 1, 40, 4]);
     four(&mut a, &[1, 50, 5, 1, 60, 6, 1, 70, 7, 1, 80, 8]);
@@ -97,7 +97,7 @@ fn no_room() {
 
 // Three nodes: a split, and back to one leaf; then the split tree restored over it.
 fn split() {
-    let mut a = [7; 124];
+    let mut a = [7; 127];
     format(&mut a);
     four(&mut a, &[1, 1, 101, 1, 2, 102, 1, 3, 103, 1, 4, 104]);
     four(&mut a, &[1, 5, 105, 1, 6, 106, 1, 7, 107, 1, 8, 108]);

@@ -13,6 +13,7 @@ use Rattle.model.proofs.Border.{bordered-fitting}
 use Rattle.standing.specs.Heads.{Rest, restOf, ClosedIn}
 use Rattle.standing.proofs.Scenes.{laid-closed}
 use Rattle.border.specs.Borders.{border, Rooted, RootedIn, Bordering, mended, ShortOn, Repairs}
+use Rattle.standing.proofs.States.{laid-totals}
 use Rattle.border.proofs.Tops.{rooted-of}
 use Rattle.border.proofs.Mended.{mended-list, mended-sound, mended-words}
 
@@ -22,7 +23,7 @@ grownOf st = record { whole = st .whole; free = st .free }
 
 pub laid-rooted : {st : State} → Laid st → {w : List ℕ} → w ≡ wordsOf st → Rooted w (restOf st) (grownOf st)
 laid-rooted {st} o e =
-    let H : ClosedIn (wordsOf st) (restOf st) (grownOf st) = record { nodes = nodesIn st; arena = laid-held o .arena; stand = laid-closed o; many = laid-held o .many } in
+    let H : ClosedIn (wordsOf st) (restOf st) (grownOf st) = record { nodes = nodesIn st; arena = laid-held o .arena; stand = laid-closed o; many = laid-held o .many; told = laid-totals o } in
     rw e (rooted-of (grownOf st) H (o .tall))
 
 module _ {s : Side} {st : State} (b : Bordering s st) {w : List ℕ} (e : w ≡ wordsOf st) where

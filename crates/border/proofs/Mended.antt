@@ -47,4 +47,4 @@ module _ {s : Side} {st : State} (b : Bordering s st) where
   mended-words {w} x =
       let g : restOf st ≡ restOf (mended s st) = ap (λ (n : ℕ). record { size = st .size; pairs = n; seen = seenOf (st .mark); mark = markOf (st .mark) }) (ap length (sym mended-list)) in
       let H : ClosedIn w (restOf (mended s st)) (fixBorder s (st .whole) (st .free)) = subst (λ (r : Rest). ClosedIn w r (fixBorder s (st .whole) (st .free))) g (subst (ClosedIn w (restOf st)) (x .same) (x .held)) in
-      closed-words (mended s st) mended-sound (H .arena) refl (H .many) (H .stand)
+      closed-words (mended s st) mended-sound (H .arena) refl (H .many) (H .stand) (H .told)

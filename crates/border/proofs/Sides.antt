@@ -15,18 +15,20 @@ use Rattle.model.specs.Insert.{Side, left, right, cut}
 use Rattle.model.specs.Remove.{join, canMerge, staying, steal, besideLeft, besideRight, Balanced, merged, moved, movedTo, balance}
 use Rattle.model.specs.Border.{lacks, stockLast, stockFirst, stock, fixDown}
 use Rattle.model.proofs.Plug.{length-fill}
-use Rattle.model.proofs.Balance.{lender, taker, balance-merged, balance-moved, steal-lengths}
+use Rattle.model.proofs.Balance.{balance-merged, balance-moved, steal-lengths}
+use Rattle.model.specs.Remove.{lender, taker}
 use Rattle.model.proofs.Border.{other}
 use Rattle.model.proofs.Cut.{length-join, join-cut}
 use Rattle.node.specs.declared.NodeNo.{NodeNo}
-use Rattle.node.specs.Reading.{Within, Has}
+use Rattle.node.specs.Reading.{Within}
 use Rattle.standing.specs.Standing.{Hole}
 use Rattle.standing.proofs.Scenes.{zoom-in}
 use Rattle.shrinking.proofs.Steps.{beside-high, beside-low, hole-low, hole-high}
 use Rattle.fix.specs.declared.BalancingContext.{BalancingContext}
 use Rattle.standing.specs.Heads.{Rest, HoleIn, ClosedIn}
 use Rattle.fix.proofs.Holes.{closed-in, node-within, node-long, node-most, left-sibling, right-sibling, own-edge}
-use Rattle.fix.proofs.Balances.{MergeCall, StealCall, Steals, contextOf, Neighbours, word-left, word-right, merge-hole, steal-in, steal-hole}
+use Rattle.fix.specs.Repairs.{Neighbours, MergeCall, Stealing, StealCall}
+use Rattle.fix.proofs.Balances.{word-left, word-right}
 use Rattle.border.specs.Borders.{Some, Rooted, Topped, Descending, DescendsIn, down}
 use Rattle.border.proofs.Tops.{some-pairs, root-word, height-word, rooted-of, plug-some}
 
@@ -38,7 +40,7 @@ holeAt left c n l v r = under (record { no = n; left = l; right = record { pair 
 
 hole-at : {w : List ℕ} {g : Rest} {h : ℕ} (s : Side) (c : Ctx (suc (suc h))) (n : ℕ) (l : List (Item (Tree (suc h)))) (v : Twin (Tree (suc h))) (r : List (Item (Tree (suc h)))) (free : List ℕ)
     → HoleIn w g (under (record { no = n; left = l; right = record { pair = v .pair; edge = v .right } ∷ r }) c) (v .left) free → HoleIn w g (holeAt s c n l v r) (taker (other s) v) free
-hole-at right c n l v r free H = record { nodes = H .nodes; arena = H .arena; stand = hole-high c n l v r free (beside-low c n l v r free (H .stand)); many = H .many }
+hole-at right c n l v r free H = record { nodes = H .nodes; arena = H .arena; stand = hole-high c n l v r free (beside-low c n l v r free (H .stand)); many = H .many; told = H .told }
 hole-at left c n l v r free H = H
 
 pub record Stocking (s : Side) (w : List ℕ) (g : Rest) (h : ℕ) (t : Grown) (b : BalancingContext) : Type 0 where
@@ -67,13 +69,13 @@ module _ {s : Side} {w : List ℕ} {g : Rest} {h : ℕ} {t : Grown} {b : Balanci
   pub stock-merged : canMerge (q .both .twin) ≡ true → {w′ : List ℕ} → MergeCall w w′ b → Descending s w′ g (b .left .0) h t
   stock-merged e {w′} call =
       let f : Frame (Tree (suc (B .height))) = record { no = B .no; left = B .lows; right = B .highs } in
-      let H = merge-hole B e call in
+      let H = call g B e in
       subst (λ (i : ℕ). Descending s w′ g (b .left .0) i t) (q .height-is)
       (record {
         way = under f (B .ctx);
         tree = join (B .twin);
         free = returned (B .twin .right .no) (B .free);
-        held = record { nodes = H .nodes; arena = H .arena; stand = zoom-in f (B .ctx) (join (B .twin)) (returned (B .twin .right .no) (B .free)) (H .stand); many = H .many };
+        held = record { nodes = H .nodes; arena = H .arena; stand = zoom-in f (B .ctx) (join (B .twin)) (returned (B .twin .right .no) (B .free)) (H .stand); many = H .many; told = H .told };
         node-is = ap (λ (x : BalancingContext). x .left .0) (B .is);
         some = some-pairs (B .height) (length ((join (B .twin)) .rest)) (omega (arith, length-join (B .twin)));
         same = q .when-merged e;
@@ -122,8 +124,8 @@ module _ {s : Side} {w : List ℕ} {g : Rest} {h : ℕ} {t : Grown} {b : Balanci
               by left f z = omega (arith, many)
               by right f z = omega (arith, many)
 
-      pub stock-in : Has w (λ h ns. Steals (other s) b k ns)
-      stock-in = steal-in B (other s) k (omega arith) lent (omega arith)
+      pub stock-in : Stealing (other s) w b k
+      stock-in = record { rest = g; both = B; some = omega arith; lent = lent; room = omega arith }
 
       stolen-no : (s : Side) → (taker (other s) (steal (other s) k (B .twin))) .no ≡ (taker (other s) (B .twin)) .no
       stolen-no right = refl
@@ -132,7 +134,7 @@ module _ {s : Side} {w : List ℕ} {g : Rest} {h : ℕ} {t : Grown} {b : Balanci
       pub stock-moved : {w′ : List ℕ} → StealCall (other s) w w′ b k → Descending s w′ g (childNo s b) h t
       stock-moved {w′} call =
           let x = steal (other s) k (B .twin) in
-          let H = steal-hole B (other s) k (omega arith) lent (omega arith) call in
+          let H = call g B (omega arith) lent (omega arith) in
           let n = steal-lengths k (B .twin) (other s) lent .1 in
           subst (λ (i : ℕ). Descending s w′ g (childNo s b) i t) (q .height-is)
           (record {
@@ -179,7 +181,7 @@ module _ {w : List ℕ} {g : Rest} {node h : ℕ} {t : Grown} where
     f = record { no = x .tree .no; left = L .item ∷ L .lows; right = [] }
 
     H : HoleIn w g (under f (x .way)) (L .child) (x .free)
-    H = record { nodes = x .held .nodes; arena = x .held .arena; stand = zoom-in f (x .way) (L .child) (x .free) (subst (λ (v : Tree (suc (suc h))). Hole (x .held .nodes) (x .way) v (x .free)) (L .filled) (x .held .stand)); many = x .held .many }
+    H = record { nodes = x .held .nodes; arena = x .held .arena; stand = zoom-in f (x .way) (L .child) (x .free) (subst (λ (v : Tree (suc (suc h))). Hole (x .held .nodes) (x .way) v (x .free)) (L .filled) (x .held .stand)); many = x .held .many; told = x .held .told }
 
     count-is : length (x .tree .rest) ≡ suc (length (L .lows))
     count-is = ap (λ (v : Tree (suc (suc h))). length (v .rest)) (L .filled) ∙ length-fill (x .tree .no) (L .item ∷ L .lows) (L .child) [] ∙ omega arith
@@ -202,7 +204,7 @@ module _ {w : List ℕ} {g : Rest} {node h : ℕ} {t : Grown} where
             twin = tw;
             highs = [];
             free = x .free;
-            held = record { nodes = H .nodes; arena = H .arena; stand = hole-low (x .way) (x .tree .no) (L .lows) tw [] (x .free) (beside-high (x .way) (x .tree .no) (L .lows) tw [] (x .free) (H .stand)); many = H .many };
+            held = record { nodes = H .nodes; arena = H .arena; stand = hole-low (x .way) (x .tree .no) (L .lows) tw [] (x .free) (beside-high (x .way) (x .tree .no) (L .lows) tw [] (x .free) (H .stand)); many = H .many; told = H .told };
             is = λ j. record { parent = record { 0 = x .node-is j }; at = record { 0 = ki j }; left = record { 0 = u j }; right = record { 0 = v j } };
           };
           height-is = refl;
@@ -224,7 +226,7 @@ module _ {w : List ℕ} {g : Rest} {node h : ℕ} {t : Grown} (x : Descending le
       by n e (y ∷ r) c free H en l q =
           let f : Frame (Tree (suc h)) = record { no = n; left = []; right = y ∷ r } in
           let T : Tree (suc (suc h)) = record { no = n; first = e; rest = y ∷ r } in
-          let K : HoleIn w g (under f c) e free = record { nodes = H .nodes; arena = H .arena; stand = zoom-in f c e free (H .stand); many = H .many } in
+          let K : HoleIn w g (under f c) e free = record { nodes = H .nodes; arena = H .arena; stand = zoom-in f c e free (H .stand); many = H .many; told = H .told } in
           let u : e .no ≡ a .0 = sym (rw (← en) at ea ∙ own-edge n [] (y ∷ r) c e free K) in
           let v : y .edge .no ≡ b .0 = sym (rw (← en) at eb ∙ right-sibling n y r c e free K) in
           record {

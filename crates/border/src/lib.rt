@@ -1,8 +1,8 @@
 // The repair of a tree's border (fix.rs): empty tops are dropped, and down the right or the left side each child is merged or stocked.
-use balance::bulk_steal_left;
-use balance::bulk_steal_right;
-use balance::do_merge;
+use fix::bulk_steal_left;
+use fix::bulk_steal_right;
 use fix::can_merge;
+use fix::do_merge;
 use internal::pop_internal_level;
 use node::HEIGHT;
 use node::MIN_LEN;

@@ -7,9 +7,10 @@ use mathlib.Core.Path.{_≡_, refl, sym, ap, subst, _∙_}
 use mathlib.Core.List.{List, [], _∷_, _++_}
 use lib.ListN.{length, length-append}
 use Rattle.model.specs.Lists.{mixTo}
-use Rattle.model.specs.Layout.{keysWord}
-use Rattle.model.specs.WellFormed.{Reached, Zeros, lengthAt, keyAt, reach, keysIn}
-use Rattle.model.specs.Shape.{Own, Shape}
+use Rattle.model.specs.declared.Layout.{Layout}
+use Rattle.model.specs.Layout.{keysWord, Counts, totalWord, wordAtBy}
+use Rattle.model.specs.WellFormed.{Reached, ZerosBy, lengthAtBy, keyAtBy, reachBy, keysInBy}
+use Rattle.model.specs.Shape.{OwnBy, ShapeBy}
 use Rattle.inspect.specs.declared.Last.{Last}
 use Rattle.inspect.specs.declared.Last.the-variants.{After}
 use Rattle.inspect.specs.Tests.{Above, ups, rise, steps}
@@ -58,43 +59,44 @@ ups-row k l (suc m) a e =
 -- ---- a leaf
 
 -- what is tested of a leaf beside its own words
-pub record Passed (w : List ℕ) (n : ℕ) (u : Walk) : Type 0 where
-  pub pairs : lengthAt w n ≤ u .pairs
-  pub above : Above (u .last) (keyAt w n 0)
-  pub ascents : ups (keyAt w n) steps + 1 ≡ lengthAt w n
+pub record Passed (fm : Layout) (w : List ℕ) (n : ℕ) (u : Walk) : Type 0 where
+  pub pairs : lengthAtBy fm w n ≤ u .pairs
+  pub above : Above (u .last) (keyAtBy fm w n 0)
+  pub ascents : ups (keyAtBy fm w n) steps + 1 ≡ lengthAtBy fm w n
+  pub told : Counts fm → wordAtBy fm w n totalWord ≡ lengthAtBy fm w n
 
-module _ (w : List ℕ) (count fewest n p e : ℕ) (u : Walk) (some : 1 ≤ fewest) where
+module _ (fm : Layout) (w : List ℕ) (count fewest n p e : ℕ) (u : Walk) (some : 1 ≤ fewest) where
   abbrev leafAt : ℕ → Reached
   leafAt h = record { below = h; fewest = fewest; node = n; parent = p; place = e }
 
-  ups-used : (m : ℕ) → lengthAt w n ≡ suc m → Own w count (leafAt 0) → ups (keyAt w n) steps ≡ ups (keyAt w n) m
-  unfolding Zeros
-  ups-used m q o = ups-flat (keyAt w n) m steps (omega (arith, q, o .short)) (λ j l t. o .unused .keys-rest (keysWord + j) (omega (arith, q)) (omega arith))
+  ups-used : (m : ℕ) → lengthAtBy fm w n ≡ suc m → OwnBy fm w count (leafAt 0) → ups (keyAtBy fm w n) steps ≡ ups (keyAtBy fm w n) m
+  unfolding ZerosBy
+  ups-used m q o = ups-flat (keyAtBy fm w n) m steps (omega (arith, q, o .short)) (λ j l t. o .unused .keys-rest (keysWord + j) (omega (arith, q)) (omega arith))
 
-  passed : (len : ℕ) → lengthAt w n ≡ len → Own w count (leafAt 0) → Rises (u .last) (row (keyAt w n) len) → length (row (keyAt w n) len) ≤ u .pairs → Passed w n u
-  passed zero q o r l = absurd (omega (arith, q, o .enough, some))
-  passed (suc m) q o r l =
-      let a = row-ups (keyAt w n) (u .last) m r in
-      record { pairs = omega (arith, q, row-long (keyAt w n) (suc m), l); above = a .0; ascents = omega (arith, a .1, q, ups-used m q o) }
+  passed : (len : ℕ) → lengthAtBy fm w n ≡ len → OwnBy fm w count (leafAt 0) → (Counts fm → wordAtBy fm w n totalWord ≡ lengthAtBy fm w n) → Rises (u .last) (row (keyAtBy fm w n) len) → length (row (keyAtBy fm w n) len) ≤ u .pairs → Passed fm w n u
+  passed zero q o c r l = absurd (omega (arith, q, o .enough, some))
+  passed (suc m) q o c r l =
+      let a = row-ups (keyAtBy fm w n) (u .last) m r in
+      record { pairs = omega (arith, q, row-long (keyAtBy fm w n) (suc m), l); above = a .0; ascents = omega (arith, a .1, q, ups-used m q o); told = c }
 
-  pub leaf-passed : (h : ℕ) → h ≡ 0 → Passes (nodeTask w count (leafAt h)) u → Passed w n u
-  unfolding Shape keysIn
-  leaf-passed zero z q = passed (lengthAt w n) refl (q .holds) (q .rises) (q .pairs)
+  pub leaf-passed : (h : ℕ) → h ≡ 0 → Passes (nodeTask fm w count (leafAt h)) u → Passed fm w n u
+  unfolding ShapeBy keysInBy
+  leaf-passed zero z q = passed (lengthAtBy fm w n) refl (q .holds .0) (λ t. q .holds .1 t ∙ row-long (keyAtBy fm w n) (lengthAtBy fm w n)) (q .rises) (q .pairs)
   leaf-passed (suc h) z q = absurd (omega arith)
 
-  rises-at : (len : ℕ) → lengthAt w n ≡ len → Own w count (leafAt 0) → Passed w n u → Rises (u .last) (row (keyAt w n) len)
+  rises-at : (len : ℕ) → lengthAtBy fm w n ≡ len → OwnBy fm w count (leafAt 0) → Passed fm w n u → Rises (u .last) (row (keyAtBy fm w n) len)
   rises-at zero q o t = absurd (omega (arith, q, o .enough, some))
-  rises-at (suc m) q o t = ups-row (keyAt w n) (u .last) m (t .above) (omega (arith, q, ups-used m q o, t .ascents))
+  rises-at (suc m) q o t = ups-row (keyAtBy fm w n) (u .last) m (t .above) (omega (arith, q, ups-used m q o, t .ascents))
 
-  last-at : (len : ℕ) → 1 ≤ len → lastOf (u .last) (row (keyAt w n) len) ≡ After (keyAt w n (len - 1))
+  last-at : (len : ℕ) → 1 ≤ len → lastOf (u .last) (row (keyAtBy fm w n) len) ≡ After (keyAtBy fm w n (len - 1))
   last-at zero l = absurd (omega arith)
-  last-at (suc m) l = rw (sub-one (suc m)) (row-last (keyAt w n) (u .last) m)
+  last-at (suc m) l = rw (sub-one (suc m)) (row-last (keyAtBy fm w n) (u .last) m)
 
-  pub leaf-good : (h len x : ℕ) → h ≡ 0 → len ≡ lengthAt w n → x ≡ keyAt w n (len - 1) → 1 ≤ u .nodes → Own w count (leafAt h) → Passed w n u
-      → Said (nodeTask w count (leafAt h)) u (Good (record { nodes = u .nodes - 1; pairs = u .pairs - len; last = After x }))
-  unfolding Shape reach keysIn
+  pub leaf-good : (h len x : ℕ) → h ≡ 0 → len ≡ lengthAtBy fm w n → x ≡ keyAtBy fm w n (len - 1) → 1 ≤ u .nodes → OwnBy fm w count (leafAt h) → Passed fm w n u
+      → Said (nodeTask fm w count (leafAt h)) u (Good (record { nodes = u .nodes - 1; pairs = u .pairs - len; last = After x }))
+  unfolding ShapeBy reachBy keysInBy
   leaf-good zero len x z d y s o t = (
-    record { holds = o; rises = rises-at (lengthAt w n) refl o t; pairs = omega (arith, row-long (keyAt w n) (lengthAt w n), t .pairs); nodes = omega (arith, s) },
-    walk-is (omega arith) (omega (arith, d, row-long (keyAt w n) (lengthAt w n))) (ap After (y ∙ ap (λ i. keyAt w n (i - 1)) d) ∙ sym (last-at (lengthAt w n) (omega (arith, some, o .enough)))),
+    record { holds = (o, λ c. t .told c ∙ sym (row-long (keyAtBy fm w n) (lengthAtBy fm w n))); rises = rises-at (lengthAtBy fm w n) refl o t; pairs = omega (arith, row-long (keyAtBy fm w n) (lengthAtBy fm w n), t .pairs); nodes = omega (arith, s) },
+    walk-is (omega arith) (omega (arith, d, row-long (keyAtBy fm w n) (lengthAtBy fm w n))) (ap After (y ∙ ap (λ i. keyAtBy fm w n (i - 1)) d) ∙ sym (last-at (lengthAtBy fm w n) (omega (arith, some, o .enough)))),
   )
   leaf-good (suc h) len x z d y s o t = absurd (omega arith)

@@ -3,3 +3,4 @@ pub mod Tasks
 pub mod Nodes
 pub mod Whole
 pub mod Leaves
+pub mod Formats

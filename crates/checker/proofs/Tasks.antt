@@ -13,7 +13,7 @@ use Rattle.model.specs.Lists.{mixTo}
 use Rattle.checker.specs.declared.Walk.{Walk}
 use Rattle.checker.specs.declared.Checked.{Checked}
 use Rattle.checker.specs.declared.Checked.the-variants.{Bad, Good}
-use Rattle.checker.specs.Walks.{Task, Rises, lastOf, Passes, after, Said, keyTask, gap, upTo}
+use Rattle.checker.specs.Walks.{Task, Rises, lastOf, Passes, after, Said, Counted, keyTask, gap, upTo}
 use Rattle.checker.proofs.Order.{rises-left, rises-right, rises-both, last-append}
 
 pub walk-is : {u v : Walk} → u .nodes ≡ v .nodes → u .pairs ≡ v .pairs → u .last ≡ v .last → u ≡ v
@@ -68,6 +68,37 @@ module _ {s t : Task} (e : Same s t) where
     record { holds = e .to (q .0 .holds); rises = rw (e .keys) at (q .0 .rises); pairs = omega (arith, ap length (e .keys), q .0 .pairs); nodes = omega (arith, e .nodes, q .0 .nodes) },
     q .1 ∙ walk-is (ap (λ n. w .nodes - n) (e .nodes)) (ap (λ l. w .pairs - length l) (e .keys)) (ap (lastOf (w .last)) (e .keys)),
   )
+
+-- ---- a task, and the count of its pairs
+
+abbrev pub counted : Task → ℕ → Task
+counted t x = record { holds = t .holds × (x ≡ length (t .keys)); keys = t .keys; nodes = t .nodes }
+
+uncounted : (t : Task) (x : ℕ) (w : Walk) → Passes (counted t x) w → Passes t w
+uncounted t x w p = record { holds = p .holds .0; rises = p .rises; pairs = p .pairs; nodes = p .nodes }
+
+pub counted-said : (t : Task) (x : ℕ) (w : Walk) (d q : Checked) → Said t w d → Counted d (w .pairs) x q → Said (counted t x) w q
+counted-said t x w Bad q s c = subst (Said (counted t x) w) (sym c) (λ p. s (uncounted t x w p))
+counted-said t x w (Good v) Bad s c = λ p. c (omega (arith, ap (λ (z : Walk). z .pairs) (s .1), s .0 .pairs, p .holds .1))
+counted-said t x w (Good v) (Good u) s c = (
+  record { holds = (s .0 .holds, omega (arith, ap (λ (z : Walk). z .pairs) (s .1), s .0 .pairs, c .0)); rises = s .0 .rises; pairs = s .0 .pairs; nodes = s .0 .nodes },
+  c .1 ∙ s .1,
+)
+
+-- the cases of the comparison
+module _ (d : Checked) (pairs x : ℕ) where
+  pub told-bad : d ≡ Bad → Counted d pairs x Bad
+  told-bad e = rw e refl
+
+  module _ (v : Walk) (t : ℕ) (e : d ≡ Good v) (s : t ≡ x) where
+    pub told-over : pairs < t → Counted d pairs x Bad
+    told-over l = rw e (λ z. omega arith)
+
+    pub told-other : t ≤ pairs → (v .pairs ≡ pairs - t → ⊥) → Counted d pairs x Bad
+    told-other l n = rw e (λ z. n (omega arith))
+
+    pub told-good : t ≤ pairs → v .pairs ≡ pairs - t → Counted d pairs x (Good v)
+    told-good l n = rw e (omega arith, refl)
 
 -- ---- s begins t
 

@@ -5,8 +5,9 @@ use native.Mathlib.Omega.{arith}
 use mathlib.Core.Path.{_≡_, ap, subst, sym}
 use mathlib.Core.Bool.{Bool, false, not}
 use mathlib.Core.List.{List}
+use Rattle.model.specs.declared.Layout.{Layout}
 use Rattle.model.specs.Layout.{header, seenWord, markWord}
-use Rattle.model.specs.WellFormed.{WellFormed, keys}
+use Rattle.model.specs.WellFormed.{WellFormedBy, WellFormed, keysBy}
 use Rattle.model.specs.Promise.{Holds}
 use Rattle.model.proofs.Parts.{of-parts, parts-of, counted}
 use Rattle.model.proofs.Bounds.{low}
@@ -17,11 +18,11 @@ use Rattle.inspect.specs.Tests.{Decides, Marked}
 use Rattle.inspect.proofs.Decisions.{decided}
 use Rattle.checker.specs.declared.Walk.{Walk}
 use Rattle.checker.specs.Walks.{Passes, after}
-use Rattle.checker.specs.Whole.{Heading, tree, start, Finished}
+use Rattle.checker.specs.Whole.{HeadingBy, tree, start, FinishedBy}
 use Rattle.checker.proofs.Order.{rises-rising, rising-rises, marks-of, of-marks}
 
-module _ {w : List ℕ} where
-  pub formed : Heading w → Passes (tree w) (start w) → (v : Walk) → v ≡ after (start w) (tree w) → Finished w v → WellFormed w
+module _ {fm : Layout} {w : List ℕ} where
+  pub formed : HeadingBy fm w → Passes (tree fm w) (start w) → (v : Walk) → v ≡ after (start w) (tree fm w) → FinishedBy fm w v → WellFormedBy fm w
   formed h p v e f =
       let n = ap (λ (u : Walk). u .nodes) e in
       let k = ap (λ (u : Walk). u .pairs) e in
@@ -31,20 +32,20 @@ module _ {w : List ℕ} where
         offset = h .offset;
         tree = p .holds;
         free = f .free;
-        rising = rises-rising Start (keys w) (p .rises);
+        rising = rises-rising Start (keysBy fm w) (p .rises);
         pairs-true = omega (arith, k, f .pairs, p .pairs);
         nodes-true = omega (arith, n, f .nodes, p .nodes, h .few-free);
-        marks = marks-of (header w seenWord) (header w markWord) (keys w) (p .rises) (subst (λ (u : Walk). Marked (header w seenWord) (header w markWord) (u .last)) e (f .marked));
+        marks = marks-of (header w seenWord) (header w markWord) (keysBy fm w) (p .rises) (subst (λ (u : Walk). Marked (header w seenWord) (header w markWord) (u .last)) e (f .marked));
       })
 
-  module _ (f : WellFormed w) where
-    pub formed-heading : Heading w
+  module _ (f : WellFormedBy fm w) where
+    pub formed-heading : HeadingBy fm w
     formed-heading = record { format = f .format; sized = f .sized; offset = f .offset; low = low f; few-free = omega (arith, counted f) }
 
-    pub formed-passes : Passes (tree w) (start w)
-    formed-passes = record { holds = parts-of f .tree; rises = rising-rises (keys w) (f .rising); pairs = omega (arith, f .pairs-true); nodes = omega (arith, counted f) }
+    pub formed-passes : Passes (tree fm w) (start w)
+    formed-passes = record { holds = parts-of f .tree; rises = rising-rises (keysBy fm w) (f .rising); pairs = omega (arith, f .pairs-true); nodes = omega (arith, counted f) }
 
-    pub formed-finished : (v : Walk) → v ≡ after (start w) (tree w) → Finished w v
+    pub formed-finished : (v : Walk) → v ≡ after (start w) (tree fm w) → FinishedBy fm w v
     formed-finished v e =
         let n = ap (λ (u : Walk). u .nodes) e in
         let k = ap (λ (u : Walk). u .pairs) e in
@@ -52,7 +53,7 @@ module _ {w : List ℕ} where
           nodes = omega (arith, n, counted f);
           pairs = omega (arith, k, f .pairs-true);
           free = parts-of f .free;
-          marked = subst (λ (u : Walk). Marked (header w seenWord) (header w markWord) (u .last)) (sym e) (of-marks (header w seenWord) (header w markWord) (keys w) (parts-of f .marks));
+          marked = subst (λ (u : Walk). Marked (header w seenWord) (header w markWord) (u .last)) (sym e) (of-marks (header w seenWord) (header w markWord) (keysBy fm w) (parts-of f .marks));
         }
 
 -- ---- what a caller has from a good check: the state that the words say, sound, and that they are its words

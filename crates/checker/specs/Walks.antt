@@ -5,9 +5,11 @@ use mathlib.Core.Path.{_≡_}
 use mathlib.Core.List.{List, [], _∷_, _++_}
 use lib.ListN.{length}
 use Rattle.model.specs.Lists.{joinTo, mixTo}
+use Rattle.model.specs.declared.Layout.{Layout}
+use Rattle.model.specs.declared.Layout.the-variants.{Format1, Format2}
 use Rattle.model.specs.Layout.{least}
-use Rattle.model.specs.WellFormed.{Reached, edgeAt, keyAt, reach, keysIn}
-use Rattle.model.specs.Shape.{Shape}
+use Rattle.model.specs.WellFormed.{Reached, edgeAtBy, keyAtBy, reachBy, keysInBy}
+use Rattle.model.specs.Shape.{ShapeBy}
 use Rattle.inspect.specs.declared.Last.{Last}
 use Rattle.inspect.specs.declared.Last.the-variants.{After}
 use Rattle.inspect.specs.Tests.{Above}
@@ -45,6 +47,17 @@ abbrev pub Said : Task → Walk → Checked → Type 0
 Said t w Bad = Passes t w → ⊥
 Said t w (Good v) = Passes t w × (v ≡ after w t)
 
+-- a task that was answered, and then the count x of its pairs compared with those that were passed
+abbrev pub Counted : Checked → ℕ → ℕ → Checked → Type 0
+Counted Bad pairs x q = q ≡ Bad
+Counted (Good v) pairs x Bad = v .pairs + x ≡ pairs → ⊥
+Counted (Good v) pairs x (Good u) = (v .pairs + x ≡ pairs) × (u ≡ v)
+
+-- (format 1 has no counts)
+abbrev pub CountedBy : Layout → Checked → ℕ → ℕ → Checked → Type 0
+CountedBy Format1 d pairs x q = q ≡ d
+CountedBy Format2 d pairs x q = Counted d pairs x q
+
 -- ---- the tasks
 
 abbrev pub keyTask : ℕ → Task
@@ -54,11 +67,11 @@ keyTask k = record { holds = Unit {0}; keys = k ∷ []; nodes = 0 }
 abbrev pub gap : Task
 gap = record { holds = Unit {0}; keys = []; nodes = 0 }
 
-abbrev pub nodeTask : List ℕ → ℕ → Reached → Task
-nodeTask w count r = record {
-  holds = Shape w count (r .below) (r .fewest) (r .node) (r .parent) (r .place);
-  keys = keysIn w (r .below) (r .node);
-  nodes = length (reach w (r .below) (r .fewest) (r .node) (r .parent) (r .place));
+abbrev pub nodeTask : (fm : Layout) → List ℕ → ℕ → Reached → Task
+nodeTask fm w count r = record {
+  holds = ShapeBy fm w count (r .below) (r .fewest) (r .node) (r .parent) (r .place);
+  keys = keysInBy fm w (r .below) (r .node);
+  nodes = length (reachBy fm w (r .below) (r .fewest) (r .node) (r .parent) (r .place));
 }
 
 -- m + 1 edges of a node and the m keys between them: f says what each edge leads to, k the keys, size how many nodes so many edges lead to
@@ -69,19 +82,19 @@ upTo f k size m = record {
   nodes = size (m + 1);
 }
 
-abbrev pub keysTask : List ℕ → ℕ → ℕ → Task
-keysTask w n = upTo (λ i. gap) (keyAt w n) (λ i. 0)
+abbrev pub keysTask : (fm : Layout) → List ℕ → ℕ → ℕ → Task
+keysTask fm w n = upTo (λ i. gap) (keyAtBy fm w n) (λ i. 0)
 
 -- the node that edge i of node n leads to
-abbrev pub childOf : List ℕ → ℕ → ℕ → ℕ → Reached
-childOf w h n i = record { below = h; fewest = least; node = edgeAt w n i; parent = n; place = i }
+abbrev pub childOf : (fm : Layout) → List ℕ → ℕ → ℕ → ℕ → Reached
+childOf fm w h n i = record { below = h; fewest = least; node = edgeAtBy fm w n i; parent = n; place = i }
 
-abbrev pub children : List ℕ → ℕ → ℕ → ℕ → ℕ → Task
-children w count h n i = nodeTask w count (childOf w h n i)
+abbrev pub children : (fm : Layout) → List ℕ → ℕ → ℕ → ℕ → ℕ → Task
+children fm w count h n i = nodeTask fm w count (childOf fm w h n i)
 
 -- how many nodes the first m edges lead to
-abbrev pub nodesTo : List ℕ → ℕ → ℕ → ℕ → ℕ
-nodesTo w h n m = length (joinTo (λ i. reach w h least (edgeAt w n i) n i) m)
+abbrev pub nodesTo : (fm : Layout) → List ℕ → ℕ → ℕ → ℕ → ℕ
+nodesTo fm w h n m = length (joinTo (λ i. reachBy fm w h least (edgeAtBy fm w n i) n i) m)
 
-abbrev pub edgesTask : List ℕ → ℕ → ℕ → ℕ → ℕ → Task
-edgesTask w count h n = upTo (children w count h n) (keyAt w n) (nodesTo w h n)
+abbrev pub edgesTask : (fm : Layout) → List ℕ → ℕ → ℕ → ℕ → ℕ → Task
+edgesTask fm w count h n = upTo (children fm w count h n) (keyAtBy fm w n) (nodesTo fm w h n)

@@ -6,13 +6,18 @@ use mathlib.Core.Bool.{Bool, false, cond}
 use mathlib.Core.List.{List, [], _∷_}
 use Rattle.model.specs.declared.Answer.{Answer}
 use Rattle.model.specs.declared.Listed.{Listed}
+use Rattle.model.specs.declared.Counted.{Counted}
+use Rattle.model.specs.declared.Picked.{Picked}
+use Rattle.model.specs.declared.Range.{Range}
 use Rattle.model.specs.Answer.{numbersOf}
 use Rattle.model.specs.State.{State, Reply}
-use Rattle.model.specs.Promise.{Call, Format, Batch, Restore, Listing, badArena}
-use Rattle.model.proofs.Unique.{one-end, one-call, one-format, one-listing, one-batch, one-restore}
+use Rattle.model.specs.Promise.{Call, Format, Batch, Restore, Listing, Rank, AtRank, Upgrade, badArena, badRangeOf}
+use Rattle.model.specs.Map.{rank, countOf}
+use Rattle.model.proofs.Unique.{one-end, one-call, one-format, one-listing, one-tell, one-at, one-batch, one-restore}
+use Rattle.model.proofs.Upgrades.{one-upgrade}
 use Rattle.cuffgarnet.specs.declared.Bound.{Bound}
 use Rattle.cuffgarnet.specs.declared.Bound.the-variants.{Known, Unknown}
-use Rattle.cuffgarnet.specs.Exported.{Numbered, Worded, Told, noKind, Between}
+use Rattle.cuffgarnet.specs.Exported.{Numbered, Worded, Told, Summed, Paired, noKind, Between, CountBetween}
 
 -- one answer has one number
 pub one-number : {P Q : Answer → Type 0} {n m : ℕ} (x : Numbered P n) (y : Numbered Q m) → x .answer ≡ y .answer → n ≡ m
@@ -59,3 +64,35 @@ same-listing s e w o x y =
       x .written-is ∙ ap (λ (l : Listed). l .wrote) (d .1) ∙ sym (y .written-is),
       x .more-is ∙ ap (λ (l : Listed). cond (l .more) 1 0) (d .1) ∙ sym (y .more-is),
     )
+
+-- rank and count: one number
+one-sum : {P Q : Counted → Type 0} {n m u v : ℕ} (x : Summed P n u) (y : Summed Q m v) → x .counted ≡ y .counted → (n ≡ m) × (u ≡ v)
+one-sum x y e = (x .number-is ∙ ap (λ (c : Counted). (numbersOf (c .answer)) .number) e ∙ sym (y .number-is), x .second-is ∙ ap (λ (c : Counted). c .number) e ∙ sym (y .second-is))
+
+pub same-rank : (k : ℕ) (w : List ℕ) {n m u v : ℕ} → Summed (Rank k w w) n u → Summed (Rank k w w) m v → (n ≡ m) × (u ≡ v)
+same-rank k w x y = one-sum x y ((one-tell (badArena w ∷ []) (rank k) w (x .given) (y .given)) .1)
+
+one-uncounted : (w : List ℕ) {r₁ r₂ : Counted} → CountBetween Unknown Unknown w r₁ → CountBetween Unknown Unknown w r₂ → r₁ ≡ r₂
+one-uncounted w {r₁} {r₂} = one-end (badArena w ∷ noKind ∷ []) left (λ x y. absurd x)
+  where
+    left : (a : Answer) → r₁ ≡ record { answer = a; number = 0 } → r₂ ≡ record { answer = a; number = 0 } → r₁ ≡ r₂
+    left a x y = x ∙ sym y
+
+one-count-between : (s e : Bound) (w : List ℕ) {r₁ r₂ : Counted} → CountBetween s e w r₁ → CountBetween s e w r₂ → r₁ ≡ r₂
+one-count-between (Known s) (Known e) w x y = let q : Range = record { start = s; end = e } in (one-tell (badArena w ∷ badRangeOf q ∷ []) (countOf q) w x y) .1
+one-count-between (Known s) Unknown w x y = one-uncounted w x y
+one-count-between Unknown e w x y = one-uncounted w x y
+
+pub same-count : (s e : Bound) (w : List ℕ) {n m u v : ℕ} → Summed (CountBetween s e w) n u → Summed (CountBetween s e w) m v → (n ≡ m) × (u ≡ v)
+same-count s e w x y = one-sum x y (one-count-between s e w (x .given) (y .given))
+
+pub same-at : (i : ℕ) (w : List ℕ) {n m j k u v : ℕ} → Paired (AtRank i w w) n j u → Paired (AtRank i w w) m k v → (n ≡ m) × (j ≡ k) × (u ≡ v)
+same-at i w x y =
+    let e = (one-at i w (x .given) (y .given)) .1 in (
+      x .number-is ∙ ap (λ (p : Picked). (numbersOf (p .answer)) .number) e ∙ sym (y .number-is),
+      x .key-is ∙ ap (λ (p : Picked). p .key) e ∙ sym (y .key-is),
+      x .value-is ∙ ap (λ (p : Picked). (numbersOf (p .answer)) .word) e ∙ sym (y .value-is),
+    )
+
+pub same-upgrade : (w v : List ℕ) {v₁ v₂ : List ℕ} {n m : ℕ} → Numbered (Upgrade w v v₁) n → Numbered (Upgrade w v v₂) m → (v₁ ≡ v₂) × (n ≡ m)
+same-upgrade w v x y = let e = one-upgrade w v (x .given) (y .given) in (e .0, one-number x y (e .1))

@@ -8,9 +8,12 @@ use lib.Dec.{eqb}
 use Rattle.model.specs.declared.Answer.{Answer}
 use Rattle.model.specs.declared.Answer.the-variants.{BadRange}
 use Rattle.model.specs.declared.Listed.{Listed}
+use Rattle.model.specs.declared.Counted.{Counted}
+use Rattle.model.specs.declared.Picked.{Picked}
+use Rattle.model.specs.declared.Range.{Range}
 use Rattle.model.specs.declared.SearchBound.the-variants.{Included, Excluded, AllIncluded}
 use Rattle.model.specs.Answer.{numbersOf}
-use Rattle.model.specs.Promise.{Ends, Refusal, badArena, Listing}
+use Rattle.model.specs.Promise.{Ends, Refusal, badArena, Listing, Count}
 use Rattle.cuffgarnet.specs.declared.Bound.{Bound}
 use Rattle.cuffgarnet.specs.declared.Bound.the-variants.{Known, Unknown}
 
@@ -50,8 +53,31 @@ boundOf (suc (suc (suc kind))) key = Unknown
 abbrev pub noKind : Refusal
 noKind = record { answer = BadRange; when = (⊥ → ⊥) }
 
+-- what is asked of the range between two bounds; a bound of no kind is refused, behind a bad arena, as R says
+abbrev pub Spanned : List ℕ → (Range → Type 0) → (Answer → Type 0) → Bound → Bound → Type 0
+Spanned w P R (Known s) (Known e) = P (record { start = s; end = e })
+Spanned w P R (Known s) Unknown = Ends (badArena w ∷ noKind ∷ []) R ⊥
+Spanned w P R Unknown e = Ends (badArena w ∷ noKind ∷ []) R ⊥
+
 -- a listing from one bound to another: the arena w, the output o before and o′ after, the answer r
 abbrev pub Between : Bound → Bound → List ℕ → List ℕ → List ℕ → Listed → Type 0
-Between (Known s) (Known e) w o o′ r = Listing (record { start = s; end = e }) w w o o′ r
-Between (Known s) Unknown w o o′ r = Ends (badArena w ∷ noKind ∷ []) (λ a. (o′ ≡ o) × (r ≡ record { answer = a; wrote = 0; more = false })) ⊥
-Between Unknown e w o o′ r = Ends (badArena w ∷ noKind ∷ []) (λ a. (o′ ≡ o) × (r ≡ record { answer = a; wrote = 0; more = false })) ⊥
+Between s e w o o′ r = Spanned w (λ q. Listing q w w o o′ r) (λ a. (o′ ≡ o) × (r ≡ record { answer = a; wrote = 0; more = false })) s e
+
+-- how many pairs lie between two bounds
+abbrev pub CountBetween : Bound → Bound → List ℕ → Counted → Type 0
+CountBetween s e w r = Spanned w (λ q. Count q w w r) (λ a. r ≡ record { answer = a; number = 0 }) s e
+
+-- a number is written out
+pub record Summed (allowed : Counted → Type 0) (number second : ℕ) : Type 0 where
+  pub counted : Counted
+  pub given : allowed counted
+  pub number-is : number ≡ (numbersOf (counted .answer)) .number
+  pub second-is : second ≡ counted .number
+
+-- a pair is written out
+pub record Paired (allowed : Picked → Type 0) (number key value : ℕ) : Type 0 where
+  pub picked : Picked
+  pub given : allowed picked
+  pub number-is : number ≡ (numbersOf (picked .answer)) .number
+  pub key-is : key ≡ picked .key
+  pub value-is : value ≡ (numbersOf (picked .answer)) .word

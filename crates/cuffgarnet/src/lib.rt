@@ -11,10 +11,15 @@ use map::get;
 use map::put;
 use map::reserve;
 use model::Answer;
+use model::Counted;
 use model::Listed;
 use model::Range;
 use model::SearchBound;
+use ranks::at;
+use ranks::count;
+use ranks::rank;
 use restore::restore;
+use upgrade::upgrade;
 ghost use mathlib.Core.Path.{_≡_};
 ghost use Prim.Native.Nat.{ℕ};
 ghost use mathlib.Core.Bool.{false};
@@ -23,7 +28,7 @@ ghost use Rattle.model.specs.Public.{Promised};
 ghost use Rattle.model.specs.Public as promise;
 ghost use Rattle.batch.specs.Orders.{orderOf};
 ghost use Rattle.cuffgarnet.specs.declared.Bound.the-variants.{Unknown};
-ghost use Rattle.cuffgarnet.specs.Exported.{Numbered, Worded, Told, meantBy, boundOf, Between};
+ghost use Rattle.cuffgarnet.specs.Exported.{Numbered, Worded, Told, Summed, Paired, meantBy, boundOf, Between, CountBetween};
 
 // A bound asked for by its kind.
 pub enum Bound {
@@ -192,4 +197,83 @@ pub extern "C" fn cuffgarnet_restore(arena: &mut [u64], image: &[u64], older: u6
 {
     let restored = restore(arena, image, older == 1);
     restored.number()
+}
+
+// How many keys are smaller than a key.
+#[no_mangle]
+pub extern "C" fn cuffgarnet_rank(arena: &[u64], key: u64, second: &mut u64) -> u64
+    ensures { λ r. ⌜ Summed (Promised (promise.rank key) (now (arena .entry)) (now (arena .entry)) tt) r (now (second .exit)) ⌝ }
+{
+    let before = rank(arena, key);
+    *second = before.number;
+    let r = before.answer;
+    r.number()
+}
+
+// What a count between bounds of no kind gives: a bad arena comes first.
+fn no_count(arena: &[u64]) -> Counted
+    ensures { λ r. ⌜ CountBetween Unknown Unknown (now (arena .entry)) r ⌝ }
+{
+    if !well_formed(arena) {
+        return Counted {
+            answer: Answer::BadArena,
+            number: 0,
+        };
+    }
+    Counted {
+        answer: Answer::BadRange,
+        number: 0,
+    }
+}
+
+// How many pairs lie between two bounds.
+fn count_between(arena: &[u64], start: Bound, end: Bound) -> Counted
+    ensures { λ r. ⌜ CountBetween start end (now (arena .entry)) r ⌝ }
+{
+    match start {
+        Bound::Unknown => no_count(arena),
+        Bound::Known(s) => match end {
+            Bound::Unknown => no_count(arena),
+            Bound::Known(e) => count(arena, Range { start: s, end: e }),
+        },
+    }
+}
+
+// How many pairs a range has.
+#[no_mangle]
+pub extern "C" fn cuffgarnet_count(
+    arena: &[u64],
+    start_kind: u64,
+    start: u64,
+    end_kind: u64,
+    end: u64,
+    second: &mut u64,
+) -> u64
+    ensures { λ r. ⌜ Summed (CountBetween (boundOf «start_kind» start) (boundOf «end_kind» end) (now (arena .entry))) r (now (second .exit)) ⌝ }
+{
+    let c = count_between(arena, bound_of(start_kind, start), bound_of(end_kind, end));
+    *second = c.number;
+    let r = c.answer;
+    r.number()
+}
+
+// The pair that so many pairs are before.
+#[no_mangle]
+pub extern "C" fn cuffgarnet_at(arena: &[u64], rank: u64, key: &mut u64, value: &mut u64) -> u64
+    ensures { λ r. ⌜ Paired (Promised (promise.at rank) (now (arena .entry)) (now (arena .entry)) tt) r (now (key .exit)) (now (value .exit)) ⌝ }
+{
+    let p = at(arena, rank);
+    *key = p.key;
+    let r = p.answer;
+    *value = r.word();
+    r.number()
+}
+
+// Reads a format 1 arena into a second slice.
+#[no_mangle]
+pub extern "C" fn cuffgarnet_upgrade(source: &[u64], target: &mut [u64]) -> u64
+    ensures { λ r. ⌜ Numbered (Promised (promise.upgrade (now (source .entry))) (now (target .entry)) (now (target .exit)) tt) r ⌝ }
+{
+    let made = upgrade(source, target);
+    made.number()
 }

@@ -15,7 +15,7 @@ ghost use Rattle.model.specs.Answer.{numbersOf};
 ghost use Rattle.damage.specs.Kinds.{digitOf, wordOf, wrongs};
 
 // The words of five nodes.
-const LONG: usize = 200;
+const LONG: usize = 205;
 
 // How many values each word is damaged with.
 const KINDS: usize = 14;
@@ -83,35 +83,38 @@ fn lay(a: &mut [u64], at: usize, t: &[u8])
 
 // The header from the root's number on, and the free nodes 1 and 2.
 fn head(a: &mut [u64])
-    requires { ⌜ length (now a) ≡ 200 ⌝ }
+    requires { ⌜ length (now a) ≡ 205 ⌝ }
 {
     lay(a, 3, &[3, 1, 12, 1, 2, 1, 12]);
-    lay(a, 50, &[2]);
-    lay(a, 88, &[255]);
+    lay(a, 51, &[2]);
+    lay(a, 90, &[255]);
 }
 
 // 7 in node 3, between nodes 0 and 4.
 fn root(a: &mut [u64])
-    requires { ⌜ length (now a) ≡ 200 ⌝ }
+    requires { ⌜ length (now a) ≡ 205 ⌝ }
 {
-    lay(a, 124, &[2, 1, 255, 0, 7]);
-    lay(a, 139, &[107]);
-    lay(a, 150, &[0, 4]);
+    lay(a, 127, &[2, 1, 255, 0, 7]);
+    lay(a, 142, &[107]);
+    lay(a, 153, &[0, 4]);
+    lay(a, 165, &[12]);
 }
 
 // 1-6 in node 0, 8-12 in node 4.
 fn leaves(a: &mut [u64])
-    requires { ⌜ length (now a) ≡ 200 ⌝ }
+    requires { ⌜ length (now a) ≡ 205 ⌝ }
 {
     lay(a, 10, &[1, 6, 3, 0, 1, 2, 3, 4, 5, 6]);
     lay(a, 25, &[101, 102, 103, 104, 105, 106]);
-    lay(a, 162, &[1, 5, 3, 1, 8, 9, 10, 11, 12]);
-    lay(a, 177, &[108, 109, 110, 111, 112]);
+    lay(a, 48, &[6]);
+    lay(a, 166, &[1, 5, 3, 1, 8, 9, 10, 11, 12]);
+    lay(a, 181, &[108, 109, 110, 111, 112]);
+    lay(a, 204, &[5]);
 }
 
 // Formats words that are no arena at every length up to theirs, each time followed by a check: two answers a line.
 fn sizes(a: &mut [u64])
-    requires { ⌜ length (now a) ≡ 200 ⌝ }
+    requires { ⌜ length (now a) ≡ 205 ⌝ }
 {
     let mut k = 0;
     while k <= LONG {
@@ -139,49 +142,60 @@ fn say(a: &[u64]) {
 
 // A leaf of 4 pairs, all else true of it.
 fn short_leaf(a: &mut [u64])
-    requires { ⌜ length (now a) ≡ 200 ⌝ }
+    requires { ⌜ length (now a) ≡ 205 ⌝ }
 {
     lay(a, 5, &[11]);
-    lay(a, 163, &[4]);
-    lay(a, 170, &[0]);
-    lay(a, 181, &[0]);
+    lay(a, 165, &[11, 1, 4]);
+    lay(a, 174, &[0]);
+    lay(a, 185, &[0]);
+    lay(a, 204, &[4]);
     say(a);
 }
 
 // Node 2 neither reached nor in the chain.
 fn lost_node(a: &mut [u64])
-    requires { ⌜ length (now a) ≡ 200 ⌝ }
+    requires { ⌜ length (now a) ≡ 205 ⌝ }
 {
     lay(a, 6, &[1, 1]);
-    lay(a, 50, &[255]);
+    lay(a, 51, &[255]);
     say(a);
 }
 
 // The internal root empty, over node 0 alone; node 4 is free.
 fn empty_root(a: &mut [u64])
-    requires { ⌜ length (now a) ≡ 200 ⌝ }
+    requires { ⌜ length (now a) ≡ 205 ⌝ }
 {
-    clear(&mut a[124..200]);
+    clear(&mut a[127..205]);
     lay(a, 5, &[6, 1, 3]);
-    lay(a, 88, &[4]);
-    lay(a, 124, &[2, 0, 255]);
-    lay(a, 164, &[255]);
+    lay(a, 90, &[4]);
+    lay(a, 127, &[2, 0, 255]);
+    lay(a, 165, &[6]);
+    lay(a, 168, &[255]);
     say(a);
 }
 
 // The free nodes 2 and 1, a falling chain.
 fn falling(a: &mut [u64])
-    requires { ⌜ length (now a) ≡ 200 ⌝ }
+    requires { ⌜ length (now a) ≡ 205 ⌝ }
 {
     lay(a, 6, &[2]);
-    lay(a, 50, &[255]);
-    lay(a, 88, &[1]);
+    lay(a, 51, &[255]);
+    lay(a, 90, &[1]);
+    say(a);
+}
+
+// A count one too many and one too few, the root's true.
+fn shifted_counts(a: &mut [u64])
+    requires { ⌜ length (now a) ≡ 205 ⌝ }
+{
+    lay(a, 48, &[7]);
+    lay(a, 204, &[4]);
     say(a);
 }
 
 // The tree of three nodes.
 fn tree(a: &mut [u64])
-    requires { ⌜ length (now a) ≡ 200 ⌝ }
+    requires { ⌜ length (now a) ≡ 205 ⌝ }
 {
     head(a);
     root(a);
@@ -190,17 +204,17 @@ fn tree(a: &mut [u64])
 
 // The two formatted arenas.
 fn formats() {
-    let mut two = [7; 86];
+    let mut two = [7; 88];
     format(&mut two);
     say_line(&two);
-    let mut one = [7; 48];
+    let mut one = [7; 49];
     format(&mut one);
     every_word(&mut one);
 }
 
-// The three arenas that are wrong in one count, and the falling chain.
+// The three arenas that are wrong in one count, the falling chain, and two nodes' counts.
 fn counts(a: &mut [u64])
-    requires { ⌜ length (now a) ≡ 200 ⌝ }
+    requires { ⌜ length (now a) ≡ 205 ⌝ }
 {
     short_leaf(a);
     tree(a);
@@ -209,11 +223,13 @@ fn counts(a: &mut [u64])
     empty_root(a);
     tree(a);
     falling(a);
+    tree(a);
+    shifted_counts(a);
 }
 
 fn main() {
     formats();
-    let mut a = [7; 200];
+    let mut a = [7; 205];
     sizes(&mut a);
     tree(&mut a);
     every_word(&mut a);

@@ -6,7 +6,7 @@ use mathlib.Core.Path.{_≡_, refl, sym, ap, subst, fun-ext, _∙_}
 use mathlib.Core.Logic.{_⊎_, inl, inr, ⊎-elim}
 use mathlib.Core.Bool.{Bool, true, false}
 use mathlib.Core.List.{List, [], _∷_}
-use mathlib.Core.Option.{none}
+use mathlib.Core.Option.{Option, some, none}
 use lib.Dec.{lit<, ltb}
 use lib.ListN.{length, take, length-take}
 use borrow.Author.Tests.{eq-eqb, ne-eqb, lt-leb}
@@ -14,26 +14,30 @@ use Rattle.model.specs.declared.Answer.{Answer}
 use Rattle.model.specs.declared.Answer.the-variants.{Done, NoRoom}
 use Rattle.model.specs.declared.Range.{Range}
 use Rattle.model.specs.declared.Listed.{Listed}
-use Rattle.model.specs.Layout.{freeWord}
+use Rattle.model.specs.declared.Counted.{Counted}
+use Rattle.model.specs.declared.Picked.{Picked}
+use Rattle.model.specs.Layout.{base, header, countWord, freeWord}
+use Rattle.model.specs.Tree.{Pair}
 use Rattle.model.specs.Search.{search}
 use Rattle.model.specs.Insert.{needed}
-use Rattle.model.specs.Mark.{higher, reached, storedMark}
-use Rattle.model.specs.Map.{look, range}
+use Rattle.model.specs.Mark.{unseen, higher, reached, storedMark}
+use Rattle.model.specs.Map.{look, range, rank as rankOf, nth, picked}
 use Rattle.model.specs.Answer.{numbersOf}
 use Rattle.model.specs.State as on
-use Rattle.model.specs.State.{State, Reply, Order, putAt, putCode, deleteCode, triples}
+use Rattle.model.specs.State.{State, Reply, Order, list, putAt, putCode, deleteCode, triples}
 use Rattle.model.specs.Words.{wordsOf}
 use Rattle.model.specs.Sound.{Sound}
 use Rattle.model.specs.Promise as model
-use Rattle.model.specs.Promise.{Holds, room, laid, Called, Formatted, Ran, Restored}
+use Rattle.model.specs.Promise.{Holds, badArena, badRangeOf, room, laid, Called, Formatted, Ran, Restored, Upgraded}
 use Rattle.model.proofs.Lists.{same-or}
 use Rattle.model.proofs.Maps.{bad-panics, panics-bad}
 use Rattle.model.proofs.Calls.{get-map, Reached, Reserved, reserve-map, order-cases, NoneLeft, order-sound, batch-sound, formatted-sound, restored-sound}
 use Rattle.model.proofs.Backward.{one-state, backward}
-use Rattle.model.proofs.Unique.{one-format, one-listing, one-batch, one-restore}
+use Rattle.model.proofs.Unique.{one-format, one-listing, one-tell, one-at, one-batch, one-restore}
+use Rattle.model.proofs.Upgrades.{one-upgrade}
 use Rattle.demands.specs.Plain.{Plain, only, ordered, orderedAll, putTo, getFrom, deleteFrom, reserveOn, roomBy, roomsBy}
 use Rattle.demands.specs.Stored.{stored, held}
-use Rattle.demands.specs.Call.{refusal, Call, ByMap, Refused, Did}
+use Rattle.demands.specs.Call.{refusal, Call, made, ByMap, Refused, Did}
 use Rattle.demands.specs.Calls as call
 use Rattle.demands.specs.Calls.{Lacks, reads, InTurn}
 use Rattle.model.proofs.Header.{stored-mark, header-is}
@@ -185,6 +189,48 @@ list-lawful q o = record {
           ),
         )
 
+-- ---- rank, count, the pair at a rank
+
+-- a number told of the pairs
+tell-did : (c : Call) {w w′ : List ℕ} {r : c .promise .Said} {l : c .promise .Lent} {s : State} → c .begins ≡ false → Holds w s → w′ ≡ w → r ≡ (made c r l (held w)) .said → (made c r l (held w)) .plain ≡ held w → c .leaves w w′ l → c .speech .refused r ≡ false → Did c w w′ l r
+tell-did c {w} {s = s} b h e u p v n =
+    let f = backward w s h in
+    record { was-formed = λ z. f; formed = rw e f; long-same = ap length e; says = u; holds = ap held e ∙ sym p; leaves = v; refused-same = λ z. both-ways z n }
+
+pub rank-lawful : (k : ℕ) → Lawful (call.rank k)
+rank-lawful k = record {
+  by-map = λ w w′ l r. ends-map ((call.rank k) .refusals w) (refused-alone (call.rank k) refl) (λ n x. tell-did (call.rank k) refl (x .holds) (x .left) (x .said ∙ ap {B = Counted} (λ ps. record { answer = Done; number = rankOf k ps }) (sym (stored-is (x .holds)))) refl (x .left) (ap (λ (a : Counted). refusal (a .answer)) (x .said)));
+  one-end = λ w w₁ w₂ l₁ l₂ r₁ r₂ x y. let e = one-tell (badArena w ∷ []) (rankOf k) w x y in (e .0, refl, e .1);
+  refusing = λ w. refl;
+  raises = λ rooms p. refl;
+}
+
+pub count-lawful : (q : Range) → Lawful (call.count q)
+count-lawful q = record {
+  by-map = λ w w′ l r d. go d;
+  one-end = λ w w₁ w₂ l₁ l₂ r₁ r₂ x y. let e = one-tell (badArena w ∷ badRangeOf q ∷ []) (λ ps. length (range q ps)) w x y in (e .0, refl, e .1);
+  refusing = λ w. refl;
+  raises = λ rooms p. refl;
+}
+  where
+    go : {w w′ : List ℕ} {r : Counted} → model.Count q w w′ r → ByMap (call.count q) w w′ tt r
+    go (inl x) = inl (x .0, refused-alone (call.count q) refl _ (x .1))
+    go (inr (n, inl x)) = inr (n, inl (bad-panics q (x .0), refused-alone (call.count q) refl _ (x .1)))
+    go (inr (n, inr (m, x))) =
+        inr (n, inr ((λ p. m (panics-bad q p)), tell-did (call.count q) refl (x .holds) (x .left) (x .said ∙ ap {B = Counted} (λ ps. record { answer = Done; number = length (range q ps) }) (sym (stored-is (x .holds)))) refl (x .left) (ap (λ (a : Counted). refusal (a .answer)) (x .said))))
+
+picked-done : (o : Option Pair) → refusal ((picked o) .answer) ≡ false
+picked-done none = refl
+picked-done (some p) = refl
+
+pub at-lawful : (i : ℕ) → Lawful (call.at i)
+at-lawful i = record {
+  by-map = λ w w′ l r. ends-map ((call.at i) .refusals w) (refused-alone (call.at i) refl) (λ n x. tell-did (call.at i) refl (x .holds) (x .left) (x .said ∙ ap (λ ps. picked (nth i ps)) (sym (stored-is (x .holds)))) refl (x .left) (ap (λ (a : Picked). refusal (a .answer)) (x .said) ∙ picked-done (nth i (list (x .state)))));
+  one-end = λ w w₁ w₂ l₁ l₂ r₁ r₂ x y. let e = one-at i w x y in (e .0, refl, e .1);
+  refusing = λ w. refl;
+  raises = λ rooms p. refl;
+}
+
 -- ---- batch
 
 in-turn : (os : List Order) {w : List ℕ} {s : State} → Holds w s → InTurn os w (wordsOf (on.afterAll os s)) (on.answers os s)
@@ -253,6 +299,30 @@ restore-lawful meant i = record {
           long-same = g .long-same;
           says = x .said;
           holds = g .holds;
+          leaves = tt;
+          refused-same = λ b. both-ways b (ap refusal (x .said));
+        }
+
+-- ---- upgrade
+
+pub upgrade-lawful : (w : List ℕ) → Lawful (call.upgrade w)
+upgrade-lawful w = record {
+  by-map = λ v v′ l r. ends-map ((call.upgrade w) .refusals v) (refused-alone (call.upgrade w) refl) (λ n x. did (n .1 .0) x);
+  one-end = λ v v₁ v₂ l₁ l₂ r₁ r₂ x y. one-alone (one-upgrade w v x y);
+  refusing = λ v. refl;
+  raises = λ rooms p. mark-raises unseen (storedMark w);
+}
+  where
+    did : {v v′ : List ℕ} {r : Answer} → ((length v ≡ base (header w countWord) → ⊥) → ⊥) → Upgraded w v v′ r → Did (call.upgrade w) v v′ tt r
+    did {v} {v′} n x =
+        let h = kept-words (x .holds .sound) (x .left) in
+        let long : length v ≡ base (header w countWord) = ⊎-elim (λ e. e) (λ d. absurd (n d)) (same-or (length v) (base (header w countWord))) in
+        record {
+          was-formed = λ e. both-ways refl e;
+          formed = backward v′ (x .state) h;
+          long-same = long-is h ∙ ap base (sym (header-is (x .holds) countWord (lit< tt))) ∙ sym long;
+          says = x .said;
+          holds = held-is h ∙ sym (held-is (x .holds));
           leaves = tt;
           refused-same = λ b. both-ways b (ap refusal (x .said));
         }

@@ -9,12 +9,13 @@ use mathlib.Core.List.{List, [], _∷_, _++_, map}
 use lib.Dec.{lit<}
 use lib.ListN.{length}
 use Rattle.model.specs.declared.Answer.{Answer}
+use Rattle.model.specs.declared.Layout.the-variants.{Format2}
 use Rattle.model.specs.Lists.{All}
 use Rattle.model.specs.Layout.{base, header, wordAt, countWord, rootWord, pairsWord, freeWord, firstFreeWord, seenWord, markWord, stateWord, leaf, least, most, keyOf}
 use Rattle.model.specs.Mark.{Mark, unseen, seenOf, markOf, markBy, storedMark}
 use Rattle.model.specs.State.{list as listOf}
 use Rattle.model.specs.Words.{kind}
-use Rattle.model.specs.WellFormed.{lengthAt, edgeAt, Reached, reach, reached, WellFormed}
+use Rattle.model.specs.WellFormed.{lengthAt, edgeAt, Reached, reachBy, reach, reached, WellFormed}
 use Rattle.model.specs.Promise.{Refusal, Ends}
 use Rattle.model.proofs.Lists.{all-map, all-joined}
 use Rattle.model.proofs.Parts.{chain-length, counted}
@@ -23,7 +24,7 @@ use Rattle.model.proofs.Forward.{forward}
 use Rattle.demands.specs.Plain.{Plain, empty, bringing, Made, Spent, Raises, Spending}
 use Rattle.demands.specs.Stored.{held}
 use Rattle.demands.specs.Call.{Speech, Call, given, made, Unchanged, Refused, Did, ByMap}
-use Rattle.demands.specs.Public.{Public, format, check, get, put, delete, reserve, order, list, batch, restore}
+use Rattle.demands.specs.Public.{Public, format, check, get, put, delete, reserve, order, list, rank, count, at, batch, restore, upgrade}
 use Rattle.demands.specs.History.{Turn, Run, Standing, after, afterAll, Kept, NotLower}
 use Rattle.demands.specs.Demands.{AsTheMap, AnyHistory, OneEnd}
 use Rattle.model.proofs.Header.{header-is, seen-is, mark-is, mark-by, stored-mark}
@@ -45,7 +46,11 @@ lawful _ (reserve k) = calls.reserve-lawful k
 lawful _ (order o) = calls.order-lawful o
 lawful _ (list q o) = calls.list-lawful q o
 lawful _ (batch b a) = calls.batch-lawful b a
+lawful _ (rank k) = calls.rank-lawful k
+lawful _ (count q) = calls.count-lawful q
+lawful _ (at i) = calls.at-lawful i
 lawful _ (restore m i) = calls.restore-lawful m i
+lawful _ (upgrade w) = calls.upgrade-lawful w
 
 pub as-the-map : AsTheMap
 as-the-map c p = (lawful c p) .by-map
@@ -108,17 +113,17 @@ filled w n (r ∷ l) a b c = (λ d. (rw (a .0 d) at (b .0), c .0), filled w n l 
 
 module _ (w : List ℕ) where
   below-root : (h n p e : ℕ) → All (λ (r : Reached). r .fewest ≡ least) (reach w h least n p e)
-  unfolding reach
+  unfolding reachBy
   below-root zero n p e = (refl, tt)
   below-root (suc h) n p e = (refl, all-joined _ _ (lengthAt w n + 1) (λ i l. below-root h (edgeAt w n i) n i))
 
   but-root : (h fewest n p e : ℕ) → All (ButRoot n) (reach w h fewest n p e)
-  unfolding reach
+  unfolding reachBy
   but-root zero fewest n p e = (λ d. absurd (d refl), tt)
   but-root (suc h) fewest n p e = (λ d. absurd (d refl), all-joined _ _ (lengthAt w n + 1) (λ i l. lower n (reach w h least (edgeAt w n i) n i) (below-root h (edgeAt w n i) n i)))
 
   the-root : (h fewest n p e : ℕ) → All (λ (r : Reached). lengthAt w (r .node) ≤ most) (reach w h fewest n p e) → lengthAt w n ≤ most
-  unfolding reach
+  unfolding reachBy
   the-root zero fewest n p e a = a .0
   the-root (suc h) fewest n p e a = a .0
 
@@ -133,14 +138,14 @@ kept-of n s w f long q g =
       formed = f;
       count-same = c;
       pairs-same = e;
-      keys-same = sym (state-keys w) ∙ ap (map keyOf) t;
+      keys-same = sym (state-keys Format2 w) ∙ ap (map keyOf) t;
       rising = rw t at (h .sound .rising);
       pairs-counted = header-is h pairsWord (lit< tt) ∙ ap length t;
       leaves-deep = all-map _ _ (λ (r : Reached) (d : wordAt w (r .node) stateWord ≡ kind (r .below)). rw d (kind-leaf (r .below))) (reached w) (f .deep);
       others-filled = filled w (header w rootWord) (reached w) (but-root w _ _ _ _ _) (f .enough) (f .short);
       root-filled = the-root w _ _ _ _ _ (f .short);
-      free-counted = sym (chain-length w (header w freeWord) (header w firstFreeWord));
-      live-free = omega (arith, counted f, chain-length w (header w freeWord) (header w firstFreeWord), c);
+      free-counted = sym (chain-length Format2 w (header w freeWord) (header w firstFreeWord));
+      live-free = omega (arith, counted f, chain-length Format2 w (header w freeWord) (header w firstFreeWord), c);
       seen-same = seen-is h ∙ ap seenOf m;
       mark-same = mark-is h ∙ ap markOf m;
       spending = g;

@@ -11,20 +11,21 @@ use lib.ListN.{length, take}
 use Rattle.model.specs.declared.Answer.{Answer}
 use Rattle.model.specs.declared.Answer.the-variants.{Done, NoRoom, BadRange, Spent, BadOrder}
 use Rattle.model.specs.declared.Range.{Range}
-use Rattle.model.specs.Layout.{header, freeWord}
+use Rattle.model.specs.declared.Layout.the-variants.{Format1}
+use Rattle.model.specs.Layout.{header, base, countWord, freeWord}
 use Rattle.model.specs.Tree.{Ctx}
 use Rattle.model.specs.Search.{gap, search}
 use Rattle.model.specs.Insert.{needed}
 use Rattle.model.specs.Mark.{higher, reached, storedMark}
-use Rattle.model.specs.Map.{look, range, Panics}
+use Rattle.model.specs.Map.{look, range, rank as rankOf, nth, picked, Panics}
 use Rattle.model.specs.Answer.{numbersOf}
 use Rattle.model.specs.State.{State, Order, putCode, deleteCode, reserveCode, triples}
 use Rattle.model.specs.WellFormed.{WellFormed}
-use Rattle.model.specs.Promise.{Refusal, badSize, badArena, badImage, older, AnyCount, Holds, Fits, room, laid}
+use Rattle.model.specs.Promise.{Refusal, badSize, badArenaBy, badArena, badImage, older, AnyCount, Holds, Fits, room, laid}
 use Rattle.model.specs.Public as promise
-use Rattle.demands.specs.Stored.{stored, held}
+use Rattle.demands.specs.Stored.{stored, heldBy, held}
 use Rattle.demands.specs.Plain.{empty, bringing, only, putTo, getFrom, deleteFrom, reserveOn, ordered, orderedAll, roomsBy}
-use Rattle.demands.specs.Call.{Call, refusal, inAnswer, inListing}
+use Rattle.demands.specs.Call.{Call, refusal, inAnswer, inListing, inCount, inPick}
 
 -- ---- refusals, by the words
 
@@ -62,7 +63,7 @@ format = record {
   rooms = λ r l. [];
   does = λ rooms p. only Done empty;
   leaves = λ w w′ l. Unit {0};
-  begins = true;
+  begins = true;  -- it forgets the mark
 }
 
 -- ---- one key
@@ -152,6 +153,41 @@ list q o = record {
   begins = false;
 }
 
+-- ---- how many keys are smaller, how many pairs a range has, which pair is at a rank
+
+abbrev pub rank : (key : ℕ) → Call
+rank k = record {
+  promise = promise.rank k;
+  speech = inCount;
+  refusals = λ w. badArena w ∷ [];
+  rooms = λ r l. [];
+  does = λ rooms p. only (record { answer = Done; number = rankOf k (p .pairs) }) p;
+  leaves = λ w w′ l. w′ ≡ w;
+  begins = false;
+}
+
+abbrev pub count : Range → Call
+count q = record {
+  promise = promise.count q;
+  speech = inCount;
+  refusals = λ w. badArena w ∷ panics q ∷ [];
+  rooms = λ r l. [];
+  does = λ rooms p. only (record { answer = Done; number = length (range q (p .pairs)) }) p;
+  leaves = λ w w′ l. w′ ≡ w;
+  begins = false;
+}
+
+abbrev pub at : (rank : ℕ) → Call
+at i = record {
+  promise = promise.at i;
+  speech = inPick;
+  refusals = λ w. badArena w ∷ [];
+  rooms = λ r l. [];
+  does = λ rooms p. only (picked (nth i (p .pairs))) p;
+  leaves = λ w w′ l. w′ ≡ w;
+  begins = false;
+}
+
 -- ---- a batch
 
 -- the refusals that an order of a batch that runs may have
@@ -197,4 +233,17 @@ restore meant i = record {
   does = λ rooms p. record { said = Done; plain = record { pairs = stored i; mark = higher (p .mark) (storedMark i) }; spent = bringing (storedMark i) };
   leaves = λ w w′ l. Unit {0};
   begins = false;
+}
+
+-- ---- upgrade: the arena is the target, and begins a history with the pairs and the mark of the format 1 source
+
+abbrev pub upgrade : (source : List ℕ) → Call
+upgrade w = record {
+  promise = promise.upgrade w;
+  speech = inAnswer;
+  refusals = λ v. badArenaBy Format1 w ∷ badSize (length v ≡ base (header w countWord) → ⊥) ∷ [];
+  rooms = λ r l. [];
+  does = λ rooms p. record { said = Done; plain = heldBy Format1 w; spent = bringing (storedMark w) };
+  leaves = λ v v′ l. Unit {0};
+  begins = true;
 }

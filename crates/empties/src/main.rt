@@ -15,14 +15,14 @@ ghost use lib.ListN.{length};
 ghost use Rattle.empties.specs.Taking.{Taken};
 
 // The words of 150 nodes.
-const LONG: usize = 5710;
+const LONG: usize = 5860;
 
 // The keys are below this prime.
 const ROUND: u64 = 811;
 
 // The mix so far and the header.
 fn tell(mix: u64, a: &[u64])
-    requires { ⌜ length (now a) ≡ 5710 ⌝ }
+    requires { ⌜ length (now a) ≡ 5860 ⌝ }
 {
     say(mix);
     say_line(&a[0..10]);
@@ -49,7 +49,7 @@ fn take(a: &mut [u64], key: u64, mix: u64) -> u64
 }
 
 fn empty(a: &mut [u64], first: u64, step: u64)
-    requires { ⌜ (first < 811) × (step < 811) × (length (now a) ≡ 5710) ⌝ }
+    requires { ⌜ (first < 811) × (step < 811) × (length (now a) ≡ 5860) ⌝ }
 {
     let mut key = first;
     let mut mix = 0;
@@ -66,7 +66,7 @@ fn empty(a: &mut [u64], first: u64, step: u64)
 }
 
 fn run(a: &mut [u64], pairs: u64)
-    requires { ⌜ (pairs < 811) × (length (now a) ≡ 5710) ⌝ }
+    requires { ⌜ (pairs < 811) × (length (now a) ≡ 5860) ⌝ }
 {
     fill(a, pairs);
     empty(a, 1, 1);

@@ -13,7 +13,7 @@ ghost use Prim.Native.Nat.{_<_};
 ghost use Rattle.fills.specs.Filling.{Fills};
 
 // The words of 64 nodes.
-const LONG: usize = 2442;
+const LONG: usize = 2506;
 
 // The keys are below this prime.
 const ROUND: u64 = 10_007;

@@ -10,6 +10,7 @@ use lib.ListN.{length}
 use borrow.Author.Tests.{leb-true, leb-false, le-leb, lt-leb}
 use Rattle.model.specs.Layout.{least, most, header, countWord, freeWord, wordAt, lengthWord, NodeVal, nth, Arena}
 use Rattle.model.specs.Tree.{Pair, Item, Node, Tree, Frame, Ctx, top, under, plug, fill, Twin}
+use Rattle.model.specs.Lists.{times}
 use Rattle.model.specs.Nodes.{returned, Grown}
 use Rattle.model.specs.Words.{rootNo}
 use Rattle.model.specs.Insert.{Side, left, right}
@@ -17,25 +18,36 @@ use Rattle.model.specs.Remove.{join, canMerge, staying, steal, besideLeft, besi
 use Rattle.model.proofs.Frees.{returned-length}
 use Rattle.model.proofs.Plug.{length-fill}
 use Rattle.model.proofs.Sizes.{Len, FullCtx, Short, len-short, len-some}
-use Rattle.model.proofs.Balance.{lender, taker, balance-merged, balance-moved, steal-place}
+use Rattle.model.proofs.Balance.{balance-merged, balance-moved, steal-place}
+use Rattle.model.specs.Remove.{lender, taker}
 use Rattle.model.proofs.Repair.{shrink-enough, shrink-merged, shrink-moved}
 use Rattle.node.specs.Reading.{Within, Has}
 use Rattle.node.proofs.Reading.{within, len-is}
 use Rattle.store.specs.Links.{returnHead}
 use Rattle.balance.specs.Moves.{mergeNodes, MergeReady, Mergeable, moveNodes, StealReady}
 use Rattle.standing.specs.Standing.{rootOf, Beside}
-use Rattle.shrinking.proofs.Steps.{left-in, right-in, left-long, right-long, merge-ready, lends-left, lends-right, merge-long, merge-step, move-long, move-step, beside-low, beside-high, hole-low}
+use Rattle.shrinking.proofs.Steps.{left-in, right-in, left-long, right-long, merge-ready, lends-left, lends-right, merge-long, merge-step, move-long, move-step, beside-low, beside-high, hole-low, hole-high}
 use Rattle.fix.specs.declared.BalancingContext.{BalancingContext}
 use Rattle.fix.specs.declared.ParentKv.{ParentKv}
 use Rattle.fix.specs.declared.ParentKv.the-variants.{Left, Right, Root}
 use Rattle.standing.specs.Heads.{Rest, headWords, topOf, HoleIn, ClosedIn}
+use Rattle.fix.specs.Repairs.{contextOf, Neighbours, Merges, MergeCall, Stealing, StealCall}
+use Rattle.model.proofs.Lists.{one-same, one-other}
+use Rattle.balance.specs.Moves.{Shaped}
+use Rattle.standing.specs.Standing.{Hole}
+use Rattle.standing.specs.Totals.{due, TotalsBut, recount}
+use Rattle.standing.proofs.Leads.{one-self}
+use Rattle.standing.proofs.Scenes.{zoom-in, zoom-out}
+use Rattle.totals.specs.Settling.{above, ample, Settles}
+use Rattle.totals.proofs.Settling.{top-above, due-here, part-few, right-hole, right-kept, hole-part}
+use Rattle.totals.proofs.Siblings.{SetCall, SettleCall, merge-total, merge-told, move-total, move-told, child-told, lower-low, lower-in, lower-arena, upper-settles, both-done}
 use Rattle.fix.specs.Repairs.{Mending, Emptied, sibling, chosen}
 use Rattle.fix.proofs.Holes.{closed-in, pop-keeps, hole-header, free-few}
 
 -- ---- what the store's calls are known to do
 
-abbrev pub MergeCall : List ℕ → List ℕ → BalancingContext → Type 0
-MergeCall w w′ b = (h : List ℕ) (ns : List NodeVal) (free : List ℕ) → MergeReady h ns free (b .parent .0) (b .at .0) (b .left .0) (b .right .0) → Arena w h ns → Arena w′ (returnHead h free (b .right .0)) (mergeNodes free ns (b .parent .0) (b .at .0) (b .left .0) (b .right .0))
+abbrev pub RawMerge : List ℕ → List ℕ → BalancingContext → Type 0
+RawMerge w w′ b = (h : List ℕ) (ns : List NodeVal) (free : List ℕ) → MergeReady h ns free (b .parent .0) (b .at .0) (b .left .0) (b .right .0) → Arena w h ns → Arena w′ (returnHead h free (b .right .0)) (mergeNodes free ns (b .parent .0) (b .at .0) (b .left .0) (b .right .0))
 
 -- the one that lends, and the other; and how many pairs the left one has then
 abbrev pub lending : Side → BalancingContext → ℕ
@@ -53,24 +65,10 @@ shifted right n k = n + k
 abbrev pub Steals : Side → BalancingContext → ℕ → List NodeVal → Type 0
 Steals s b k ns = StealReady ns (b .parent .0) (b .at .0) (b .left .0) (b .right .0) (lending s b) (taking s b) k
 
-abbrev pub StealCall : Side → List ℕ → List ℕ → BalancingContext → ℕ → Type 0
-StealCall s w w′ b k = (h : List ℕ) (ns : List NodeVal) → Steals s b k ns → Arena w h ns → Arena w′ h (moveNodes ns (b .parent .0) (b .at .0) (b .left .0) (b .right .0) (shifted s (length (nth ns (b .left .0) .pairs)) k))
+abbrev pub RawSteal : Side → List ℕ → List ℕ → BalancingContext → ℕ → Type 0
+RawSteal s w w′ b k = (h : List ℕ) (ns : List NodeVal) → Steals s b k ns → Arena w h ns → Arena w′ h (moveNodes ns (b .parent .0) (b .at .0) (b .left .0) (b .right .0) (shifted s (length (nth ns (b .left .0) .pairs)) k))
 
 -- ---- two neighbours
-
-abbrev pub contextOf : {A : Type 0} → ℕ → List (Item (Node A)) → Twin (Node A) → BalancingContext
-contextOf n l w = record { parent = record { 0 = n }; at = record { 0 = length l }; left = record { 0 = w .left .no }; right = record { 0 = w .right .no } }
-
-pub record Neighbours (w : List ℕ) (g : Rest) (b : BalancingContext) : Type 0 where
-  pub height : ℕ
-  pub ctx : Ctx (suc (suc height))
-  pub no : ℕ
-  pub lows : List (Item (Tree (suc height)))
-  pub twin : Twin (Tree (suc height))
-  pub highs : List (Item (Tree (suc height)))
-  pub free : List ℕ
-  pub held : HoleIn w g (under (record { no = no; left = lows; right = record { pair = twin .pair; edge = twin .right } ∷ highs }) ctx) (twin .left) free
-  pub is : contextOf no lows twin ≡ b
 
 module _ {w : List ℕ} {g : Rest} {b : BalancingContext} (q : Neighbours w g b) where
   abbrev ns : List NodeVal
@@ -81,6 +79,14 @@ module _ {w : List ℕ} {g : Rest} {b : BalancingContext} (q : Neighbours w g b)
 
   T : Beside ns (q .ctx) (q .no) (q .lows) (q .twin) (q .highs) (q .free)
   T = beside-low (q .ctx) (q .no) (q .lows) (q .twin) (q .highs) (q .free) (q .held .stand)
+
+  -- the parent's count is not too large
+  low : nth ns (q .no) .total ≤ ample
+  low =
+      let f : Frame (Tree (suc (q .height))) = record { no = q .no; left = q .lows; right = record { pair = q .twin .pair; edge = q .twin .right } ∷ q .highs } in
+      let t = fill (f .no) (f .left) (q .twin .left) (f .right) in
+      let Z = zoom-out f (q .ctx) (q .twin .left) (q .free) (q .held .stand) in
+      omega (arith, q .held .told (q .no) refl, due-here (q .ctx) t (q .free) (hole-part (q .ctx) t (q .free) Z) (λ m u. q .held .told m refl), part-few (q .ctx) t (q .free) (q .held .arena) (hole-part (q .ctx) t (q .free) Z))
 
   in-left : q .twin .left .no < length ns
   in-left = left-in (q .ctx) (q .no) (q .lows) (q .twin) (q .highs) (q .free) T
@@ -126,16 +132,61 @@ module _ {w : List ℕ} {g : Rest} {b : BalancingContext} (q : Neighbours w g b)
     pub merge-in : Has w (λ h ns. Mergeable h ns (b .parent .0) (b .at .0) (b .left .0) (b .right .0))
     merge-in = record { head = hd; nodes = ns; arena = q .held .arena; holds = (q .free, ready-b) }
 
-    pub merge-hole : {w′ : List ℕ} → MergeCall w w′ b → HoleIn w′ g (q .ctx) (fill (q .no) (q .lows) (join (q .twin)) (q .highs)) (returned (q .twin .right .no) (q .free))
-    merge-hole {w′} call =
-        let now : Arena w′ (returnHead hd (q .free) (q .twin .right .no)) (mergeNodes (q .free) ns (q .no) (length (q .lows)) (q .twin .left .no) (q .twin .right .no)) =
-        subst (λ (x : BalancingContext). Arena w′ (returnHead hd (q .free) (x .right .0)) (mergeNodes (q .free) ns (x .parent .0) (x .at .0) (x .left .0) (x .right .0))) (sym (q .is)) (call hd ns (q .free) ready-b (q .held .arena)) in
-        record {
-          nodes = mergeNodes (q .free) ns (q .no) (length (q .lows)) (q .twin .left .no) (q .twin .right .no);
-          arena = now;
-          stand = merge-step (q .ctx) (q .no) (q .lows) (q .twin) (q .highs) (q .free) T hd refl refl;
-          many = merge-long (q .ctx) (q .no) (q .lows) (q .twin) (q .highs) (q .free) T hd refl refl ∙ q .held .many;
-        }
+    pub merges : Merges w b
+    merges = record { rest = g; both = q; can = e }
+
+    abbrev frame : Frame (Tree (suc (q .height)))
+    frame = record { no = q .no; left = q .lows; right = q .highs }
+
+    abbrev merged : List NodeVal
+    merged = mergeNodes (q .free) ns (q .no) (length (q .lows)) (q .twin .left .no) (q .twin .right .no)
+
+    abbrev freed : List ℕ
+    freed = returned (q .twin .right .no) (q .free)
+
+    abbrev hd′ : List ℕ
+    hd′ = headWords g (rootOf (q .ctx) (q .no)) (pred (topOf (q .ctx))) freed
+
+    deep : above (q .ctx) ≤ pred (topOf (q .ctx))
+    deep = omega (arith, top-above (q .ctx))
+
+    not-freed : times (q .no) (q .twin .right .no ∷ q .free) ≡ 0
+    not-freed = omega (arith, T .once (q .no), one-self (q .no))
+
+    merged-hole : Hole merged (under frame (q .ctx)) (join (q .twin)) freed
+    merged-hole = zoom-in frame (q .ctx) (join (q .twin)) freed (merge-step (q .ctx) (q .no) (q .lows) (q .twin) (q .highs) (q .free) T hd refl refl)
+
+    merged-told : TotalsBut (q .twin .left .no ∷ q .no ∷ []) merged
+    merged-told = merge-told (q .ctx) (q .no) (q .lows) (q .twin) (q .highs) (q .free) T (q .held .told) hd refl refl
+
+    merged-low : nth merged (q .no) .total ≤ ample
+    merged-low = subst (λ (k : ℕ). k ≤ ample) (sym (merge-total (q .free) ns (q .no) (length (q .lows)) (q .twin .left .no) (q .twin .right .no) (q .no) in-right not-freed)) low
+
+    module _ {w₁ : List ℕ} (call : RawMerge w w₁ b) where
+      merged-arena : Arena w₁ hd′ merged
+      merged-arena = subst (λ (x : BalancingContext). Arena w₁ (returnHead hd (q .free) (x .right .0)) (mergeNodes (q .free) ns (x .parent .0) (x .at .0) (x .left .0) (x .right .0))) (sym (q .is)) (call hd ns (q .free) ready-b (q .held .arena))
+
+      pub merge-set : Has w₁ (λ hd ns. Shaped ns (b .left .0) × (due ns (b .left .0) < 18446744073709551616))
+      merge-set = subst (λ (x : BalancingContext). Has w₁ (λ hd ns. Shaped ns (x .left .0) × (due ns (x .left .0) < 18446744073709551616))) (q .is) (lower-in frame (q .ctx) (join (q .twin)) freed merged-arena merged-hole deep merged-low [] merged-told (λ m. omega (arith, merged-hole .once m)))
+
+      module _ {w₂ : List ℕ} (set : SetCall w₁ w₂ (b .left .0)) where
+        set′ : SetCall w₁ w₂ (q .twin .left .no)
+        set′ = subst (λ (x : BalancingContext). SetCall w₁ w₂ (x .left .0)) (sym (q .is)) set
+
+        pub merge-settle : Has w₂ (λ hd ns. Settles hd ns (b .parent .0))
+        merge-settle = subst (λ (x : BalancingContext). Has w₂ (λ hd ns. Settles hd ns (x .parent .0))) (q .is) (record { head = hd′; nodes = _; arena = lower-arena frame (q .ctx) (join (q .twin)) freed merged-arena merged-hole deep merged-low [] merged-told (λ m. omega (arith, merged-hole .once m)) w₂ set′; holds = upper-settles frame (q .ctx) (join (q .twin)) freed merged-arena merged-hole deep merged-low merged-told })
+
+        pub merge-hole : {w₃ : List ℕ} → SettleCall w₂ w₃ (b .parent .0) → HoleIn w₃ g (q .ctx) (fill (q .no) (q .lows) (join (q .twin)) (q .highs)) freed
+        merge-hole {w₃} settle =
+            let s′ : SettleCall w₂ w₃ (q .no) = subst (λ (x : BalancingContext). SettleCall w₂ w₃ (x .parent .0)) (sym (q .is)) settle in
+            let R = both-done frame (q .ctx) (join (q .twin)) freed merged-arena merged-hole deep merged-low merged-told w₂ w₃ set′ s′ in
+            record {
+              nodes = R .nodes;
+              arena = R .arena;
+              stand = zoom-out frame (q .ctx) (join (q .twin)) freed (R .stand);
+              many = R .long ∙ (merge-long (q .ctx) (q .no) (q .lows) (q .twin) (q .highs) (q .free) T hd refl refl ∙ q .held .many);
+              told = R .told;
+            }
 
   -- ---- k pairs moved, out of the one at the side s
 
@@ -157,18 +208,81 @@ module _ {w : List ℕ} {g : Rest} {b : BalancingContext} (q : Neighbours w g b)
     stays left = rw long-left refl
     stays right = rw long-left refl
 
-    pub steal-hole : {w′ : List ℕ} → StealCall s w w′ b k
-        → HoleIn w′ g (under (record { no = q .no; left = q .lows; right = record { pair = (steal s k (q .twin)) .pair; edge = (steal s k (q .twin)) .right } ∷ q .highs }) (q .ctx)) ((steal s k (q .twin)) .left) (q .free)
-    steal-hole {w′} call =
-        let now : Arena w′ hd (moveNodes ns (q .no) (length (q .lows)) (q .twin .left .no) (q .twin .right .no) (staying s k (q .twin))) =
-        rw (stays s) at
-        (subst (λ (x : BalancingContext). Arena w′ hd (moveNodes ns (x .parent .0) (x .at .0) (x .left .0) (x .right .0) (shifted s (length (nth ns (x .left .0) .pairs)) k))) (sym (q .is)) (call hd ns steal-ready (q .held .arena))) in
-        record {
-          nodes = moveNodes ns (q .no) (length (q .lows)) (q .twin .left .no) (q .twin .right .no) (staying s k (q .twin));
-          arena = now;
-          stand = hole-low (q .ctx) (q .no) (q .lows) (steal s k (q .twin)) (q .highs) (q .free) (move-step (q .ctx) (q .no) (q .lows) (q .twin) (q .highs) (q .free) T (staying s k (q .twin)) place);
-          many = move-long (q .ctx) (q .no) (q .lows) (q .twin) (q .highs) (q .free) T (staying s k (q .twin)) place ∙ q .held .many;
-        }
+    pub stealing : Stealing s w b k
+    stealing = record { rest = g; both = q; some = some; lent = lent; room = room }
+
+    abbrev got : Twin (Tree (suc (q .height)))
+    got = steal s k (q .twin)
+
+    abbrev moved : List NodeVal
+    moved = moveNodes ns (q .no) (length (q .lows)) (q .twin .left .no) (q .twin .right .no) (staying s k (q .twin))
+
+    abbrev fl : Frame (Tree (suc (q .height)))
+    fl = record { no = q .no; left = q .lows; right = record { pair = got .pair; edge = got .right } ∷ q .highs }
+
+    abbrev fr : Frame (Tree (suc (q .height)))
+    fr = record { no = q .no; left = record { pair = got .pair; edge = got .left } ∷ q .lows; right = q .highs }
+
+    deep-too : above (q .ctx) ≤ pred (topOf (q .ctx))
+    deep-too = omega (arith, top-above (q .ctx))
+
+    moved-hole : Hole moved (under fl (q .ctx)) (got .left) (q .free)
+    moved-hole = hole-low (q .ctx) (q .no) (q .lows) got (q .highs) (q .free) (move-step (q .ctx) (q .no) (q .lows) (q .twin) (q .highs) (q .free) T (staying s k (q .twin)) place)
+
+    moved-told : TotalsBut (q .twin .left .no ∷ q .no ∷ q .twin .right .no ∷ []) moved
+    moved-told m u = move-told (q .ctx) (q .no) (q .lows) (q .twin) (q .highs) (q .free) T (q .held .told) (staying s k (q .twin)) place m (omega arith)
+
+    moved-low : nth moved (q .no) .total ≤ ample
+    moved-low = subst (λ (x : ℕ). x ≤ ample) (sym (move-total ns (q .no) (length (q .lows)) (q .twin .left .no) (q .twin .right .no) (staying s k (q .twin)) (q .no))) low
+
+    -- after the left one's count has been set right
+    abbrev half-way : List NodeVal
+    half-way = recount moved (q .twin .left .no)
+
+    way-hole : Hole half-way (under fr (q .ctx)) (got .right) (q .free)
+    way-hole = hole-high (q .ctx) (q .no) (q .lows) got (q .highs) (q .free) (beside-low (q .ctx) (q .no) (q .lows) got (q .highs) (q .free) (right-hole (under fl (q .ctx)) (got .left) (q .free) moved-hole))
+
+    way-told : TotalsBut (q .twin .right .no ∷ q .no ∷ []) half-way
+    way-told m u = child-told fl (q .ctx) (got .left) (q .free) moved-hole (q .twin .right .no ∷ []) moved-told m (omega arith)
+
+    module _ {w₁ : List ℕ} (call : RawSteal s w w₁ b k) where
+      moved-arena : Arena w₁ hd moved
+      moved-arena =
+          rw (stays s) at
+          (subst (λ (x : BalancingContext). Arena w₁ hd (moveNodes ns (x .parent .0) (x .at .0) (x .left .0) (x .right .0) (shifted s (length (nth ns (x .left .0) .pairs)) k))) (sym (q .is)) (call hd ns steal-ready (q .held .arena)))
+
+      pub steal-set : Has w₁ (λ hd ns. Shaped ns (b .left .0) × (due ns (b .left .0) < 18446744073709551616))
+      steal-set = subst (λ (x : BalancingContext). Has w₁ (λ hd ns. Shaped ns (x .left .0) × (due ns (x .left .0) < 18446744073709551616))) (q .is) (lower-in fl (q .ctx) (got .left) (q .free) moved-arena moved-hole deep-too moved-low (q .twin .right .no ∷ []) moved-told (λ m. omega (arith, moved-hole .once m)))
+
+      module _ {w₂ : List ℕ} (set : SetCall w₁ w₂ (b .left .0)) where
+        way-arena : Arena w₂ hd half-way
+        way-arena = lower-arena fl (q .ctx) (got .left) (q .free) moved-arena moved-hole deep-too moved-low (q .twin .right .no ∷ []) moved-told (λ m. omega (arith, moved-hole .once m)) w₂ (subst (λ (x : BalancingContext). SetCall w₁ w₂ (x .left .0)) (sym (q .is)) set)
+
+        way-low : nth half-way (q .no) .total ≤ ample
+        way-low = lower-low fl (q .ctx) (got .left) (q .free) moved-arena moved-hole deep-too moved-low
+
+        pub steal-set-right : Has w₂ (λ hd ns. Shaped ns (b .right .0) × (due ns (b .right .0) < 18446744073709551616))
+        steal-set-right = subst (λ (x : BalancingContext). Has w₂ (λ hd ns. Shaped ns (x .right .0) × (due ns (x .right .0) < 18446744073709551616))) (q .is) (lower-in fr (q .ctx) (got .right) (q .free) way-arena way-hole deep-too way-low [] way-told (λ m. omega (arith, way-hole .once m)))
+
+        module _ {w₃ : List ℕ} (set₂ : SetCall w₂ w₃ (b .right .0)) where
+          set₂′ : SetCall w₂ w₃ (q .twin .right .no)
+          set₂′ = subst (λ (x : BalancingContext). SetCall w₂ w₃ (x .right .0)) (sym (q .is)) set₂
+
+          pub steal-settle : Has w₃ (λ hd ns. Settles hd ns (b .parent .0))
+          steal-settle = subst (λ (x : BalancingContext). Has w₃ (λ hd ns. Settles hd ns (x .parent .0))) (q .is) (record { head = hd; nodes = _; arena = lower-arena fr (q .ctx) (got .right) (q .free) way-arena way-hole deep-too way-low [] way-told (λ m. omega (arith, way-hole .once m)) w₃ set₂′; holds = upper-settles fr (q .ctx) (got .right) (q .free) way-arena way-hole deep-too way-low way-told })
+
+          pub steal-hole : {w₄ : List ℕ} → SettleCall w₃ w₄ (b .parent .0)
+              → HoleIn w₄ g (under (record { no = q .no; left = q .lows; right = record { pair = (steal s k (q .twin)) .pair; edge = (steal s k (q .twin)) .right } ∷ q .highs }) (q .ctx)) ((steal s k (q .twin)) .left) (q .free)
+          steal-hole {w₄} settle =
+              let s′ : SettleCall w₃ w₄ (q .no) = subst (λ (x : BalancingContext). SettleCall w₃ w₄ (x .parent .0)) (sym (q .is)) settle in
+              let R = both-done fr (q .ctx) (got .right) (q .free) way-arena way-hole deep-too way-low way-told w₃ w₄ set₂′ s′ in
+              record {
+                nodes = R .nodes;
+                arena = R .arena;
+                stand = hole-low (q .ctx) (q .no) (q .lows) got (q .highs) (q .free) (beside-high (q .ctx) (q .no) (q .lows) got (q .highs) (q .free) (R .stand));
+                many = R .long ∙ (right-kept (under fl (q .ctx)) (got .left) (q .free) (hole-part (under fl (q .ctx)) (got .left) (q .free) moved-hole) .long ∙ (move-long (q .ctx) (q .no) (q .lows) (q .twin) (q .highs) (q .free) T (staying s k (q .twin)) place ∙ q .held .many));
+                told = R .told;
+              }
 
 -- ---- the node that lacks a pair, and has n, and its sibling at the side s
 
@@ -189,7 +303,7 @@ module _ {s : Side} {w : List ℕ} {g : Rest} {t : Grown} {b : BalancingContext}
   pub merge-held : canMerge (q .both .twin) ≡ true → {w′ : List ℕ} → MergeCall w w′ b → Mending w′ g (b .parent .0) t × (header w′ freeWord ≡ header w freeWord + 1)
   merge-held e {w′} call =
       let u = fill (B .no) (B .lows) (join (B .twin)) (B .highs) in
-      let H = merge-hole B e call in
+      let H = call g B e in
       let z : length (returned (B .twin .right .no) (B .free)) ≡ length (B .free) + 1 = omega (arith, returned-length (B .twin .right .no) (B .free)) in (
         record {
           height = suc (B .height);
@@ -217,12 +331,12 @@ module _ {s : Side} {w : List ℕ} {g : Rest} {t : Grown} {b : BalancingContext}
         go left z = (omega (arith, many), omega arith)
         go right z = (omega (arith, many), omega arith)
 
-    pub lend-in : Has w (λ h ns. Steals s b k ns)
-    lend-in = steal-in B s k (omega arith) (can-lend .0) (can-lend .1)
+    pub lend-in : Stealing s w b k
+    lend-in = stealing B s k (omega arith) (can-lend .0) (can-lend .1)
 
     pub lend-held : {w′ : List ℕ} → StealCall s w w′ b k → ClosedIn w′ g t
     lend-held {w′} call =
-        let H = steal-hole B s k (omega arith) (can-lend .0) (can-lend .1) call in
+        let H = call g B (omega arith) (can-lend .0) (can-lend .1) in
         subst (ClosedIn w′ g) (q .when-moved e)
         (subst (λ (i : ℕ). ClosedIn w′ g (record { whole = plug (B .ctx) (fill (B .no) (B .lows) ((steal s i (B .twin)) .left) (record { pair = (steal s i (B .twin)) .pair; edge = (steal s i (B .twin)) .right } ∷ B .highs)); free = B .free })) ek
         (closed-in (under (record { no = B .no; left = B .lows; right = record { pair = (steal s k (B .twin)) .pair; edge = (steal s k (B .twin)) .right } ∷ B .highs }) (B .ctx)) ((steal s k (B .twin)) .left) (B .free) H))
@@ -285,7 +399,7 @@ module _ {w : List ℕ} {g : Rest} {node : ℕ} {t : Grown} (m : Mending w g nod
                 twin = record { left = y .edge; pair = y .pair; right = x };
                 highs = rs;
                 free = free;
-                held = record { nodes = H .nodes; arena = H .arena; stand = hole-low c n l (record { left = y .edge; pair = y .pair; right = x }) rs free (beside-high c n l (record { left = y .edge; pair = y .pair; right = x }) rs free (H .stand)); many = H .many };
+                held = record { nodes = H .nodes; arena = H .arena; stand = hole-low c n l (record { left = y .edge; pair = y .pair; right = x }) rs free (beside-high c n l (record { left = y .edge; pair = y .pair; right = x }) rs free (H .stand)); many = H .many; told = H .told };
                 is = cc;
               };
               full = u .3;

@@ -16,7 +16,8 @@ use Rattle.node.specs.declared.Ascent.the-variants as ascent
 use Rattle.node.specs.Reading.{Within, ascentOf}
 use Rattle.fix.specs.declared.ParentKv.{ParentKv}
 use Rattle.fix.specs.declared.ParentKv.the-variants.{Left, Right, Root}
-use Rattle.standing.specs.Heads.{Rest, HoleIn}
+use Rattle.standing.specs.Heads.{Rest}
+use Rattle.standing.specs.Heads.{HoleIn}
 use Rattle.fix.specs.Repairs.{Mending, sibling, chosen}
 use Rattle.fix.proofs.Holes.{hangs, node-within, node-long, parent-within, place-most, left-sibling, right-sibling, ascent-is}
 

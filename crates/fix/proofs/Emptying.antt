@@ -14,6 +14,7 @@ use Rattle.node.specs.Reading.{Has}
 use Rattle.internal.specs.Inner.{PopReady, Poppable, popHead, popNodes}
 use Rattle.shrinking.proofs.Steps.{only-child, pop-ready, pop-long, pop-step}
 use Rattle.standing.specs.Heads.{Rest, headWords, HoleIn, ClosedIn}
+use Rattle.totals.proofs.Siblings.{pop-told}
 use Rattle.fix.specs.Repairs.{Emptied, Ended}
 use Rattle.fix.proofs.Holes.{hole-header, hole-long, free-few}
 
@@ -51,6 +52,7 @@ module _ {w : List ℕ} {g : Rest} {h : ℕ} (t : Tree (suc (suc h))) (free : Li
     arena = subst (λ (x : List ℕ). Arena w′ x (popNodes hd free (H .nodes))) head-is (call hd (H .nodes) free ready (H .arena));
     stand = pop-step t free (H .stand) bare hd refl refl refl;
     many = pop-long t free (H .stand) bare hd refl refl refl ∙ H .many;
+    told = pop-told t free (H .stand) bare hd refl refl refl (H .told);
   }
 
 module _ {w : List ℕ} {g : Rest} {t : Grown} (e : Emptied w g t) where

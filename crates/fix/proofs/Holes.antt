@@ -31,7 +31,7 @@ use Rattle.standing.specs.Heads.{Rest, headWords, topOf, HoleIn, ClosedIn}
 -- ---- a whole tree again
 
 pub closed-in : {w : List ℕ} {g : Rest} {h : ℕ} (c : Ctx h) (t : Tree h) (free : List ℕ) → HoleIn w g c t free → ClosedIn w g (record { whole = plug c t; free = free })
-closed-in c t free H = record { nodes = H .nodes; arena = rw (plug-root c t, plug-top c t) (H .arena); stand = close c t free (H .stand); many = H .many }
+closed-in c t free H = record { nodes = H .nodes; arena = rw (plug-root c t, plug-top c t) (H .arena); stand = close c t free (H .stand); many = H .many; told = H .told }
 
 -- a root that has pairs, or is a leaf, stays
 pub pop-keeps : (h : ℕ) (t : Tree (suc h)) (free : List ℕ) → 1 ≤ length (t .rest) → pop h t free ≡ record { whole = record { height = suc h; root = t }; free = free }

@@ -5,20 +5,58 @@ use mathlib.Core.Path.{_≡_}
 use mathlib.Core.Bool.{Bool, true, false}
 use mathlib.Core.List.{List, [], _∷_}
 use lib.ListN.{length}
-use Rattle.model.specs.Layout.{formatNumber, headerSize, header, freeWord, NodeVal, Arena}
-use Rattle.model.specs.Tree.{Item, Node, Tree, Frame, Ctx, top, under}
-use Rattle.model.specs.Nodes.{Grown}
+use Rattle.model.specs.Layout.{formatNumber, headerSize, most, header, freeWord, NodeVal, Arena}
+use Rattle.model.specs.Tree.{Item, Node, Tree, Frame, Ctx, top, under, fill, Twin}
+use Rattle.model.specs.Nodes.{Grown, returned}
 use Rattle.model.specs.Mark.{seenOf, markOf}
 use Rattle.model.specs.State.{State, list}
 use Rattle.model.specs.Words.{rootNo, firstOr}
-use Rattle.model.specs.Remove.{pop, shrink}
+use Rattle.model.specs.Remove.{pop, shrink, join, canMerge, steal, lender, taker}
 use Rattle.model.specs.Sizes.{FullCtx, Short}
+use Rattle.model.specs.Insert.{Side}
 use Rattle.standing.specs.Standing.{rootOf, Hole}
 use Rattle.standing.specs.Heads.{Rest, HoleIn, ClosedIn}
+use Rattle.fix.specs.declared.BalancingContext.{BalancingContext}
 use Rattle.fix.specs.declared.ParentKv.{ParentKv}
 use Rattle.fix.specs.declared.ParentKv.the-variants.{Left, Right, Root}
 use Rattle.fix.specs.declared.Fixed.{Fixed}
 use Rattle.fix.specs.declared.Fixed.the-variants.{Merged, Whole, EmptyRoot}
+
+-- two neighbours
+abbrev pub contextOf : {A : Type 0} → ℕ → List (Item (Node A)) → Twin (Node A) → BalancingContext
+contextOf n l w = record { parent = record { 0 = n }; at = record { 0 = length l }; left = record { 0 = w .left .no }; right = record { 0 = w .right .no } }
+
+pub record Neighbours (w : List ℕ) (g : Rest) (b : BalancingContext) : Type 0 where
+  pub height : ℕ
+  pub ctx : Ctx (suc (suc height))
+  pub no : ℕ
+  pub lows : List (Item (Tree (suc height)))
+  pub twin : Twin (Tree (suc height))
+  pub highs : List (Item (Tree (suc height)))
+  pub free : List ℕ
+  pub held : HoleIn w g (under (record { no = no; left = lows; right = record { pair = twin .pair; edge = twin .right } ∷ highs }) ctx) (twin .left) free
+  pub is : contextOf no lows twin ≡ b
+
+-- they can be merged
+pub record Merges (w : List ℕ) (b : BalancingContext) : Type 0 where
+  pub rest : Rest
+  pub both : Neighbours w rest b
+  pub can : canMerge (both .twin) ≡ true
+
+abbrev pub MergeCall : List ℕ → List ℕ → BalancingContext → Type 0
+MergeCall w w′ b = (g : Rest) (q : Neighbours w g b) → canMerge (q .twin) ≡ true → HoleIn w′ g (q .ctx) (fill (q .no) (q .lows) (join (q .twin)) (q .highs)) (returned (q .twin .right .no) (q .free))
+
+-- k pairs can be moved, out of the one at the side s
+pub record Stealing (s : Side) (w : List ℕ) (b : BalancingContext) (k : ℕ) : Type 0 where
+  pub rest : Rest
+  pub both : Neighbours w rest b
+  pub some : 1 ≤ k
+  pub lent : k ≤ length ((lender s (both .twin)) .rest)
+  pub room : length ((taker s (both .twin)) .rest) + k ≤ most
+
+abbrev pub StealCall : Side → List ℕ → List ℕ → BalancingContext → ℕ → Type 0
+StealCall s w w′ b k = (g : Rest) (q : Neighbours w g b) → 1 ≤ k → k ≤ length ((lender s (q .twin)) .rest) → length ((taker s (q .twin)) .rest) + k ≤ most
+    → HoleIn w′ g (under (record { no = q .no; left = q .lows; right = record { pair = (steal s k (q .twin)) .pair; edge = (steal s k (q .twin)) .right } ∷ q .highs }) (q .ctx)) ((steal s k (q .twin)) .left) (q .free)
 
 -- the repair is going to t: the node `node` has lost a pair
 pub record Mending (w : List ℕ) (g : Rest) (node : ℕ) (t : Grown) : Type 0 where

@@ -1,7 +1,4 @@
 // The repair of a node that has lost a pair, through its parent and upwards (fix.rs, and choose_parent_kv of node.rs).
-use balance::bulk_steal_left;
-use balance::bulk_steal_right;
-use balance::do_merge;
 use node::Ascent;
 use node::CAPACITY;
 use node::MIN_LEN;
@@ -10,14 +7,17 @@ use node::Place;
 use node::ascend;
 use node::edge;
 use node::len;
+use totals::set_right;
+use totals::settle;
 ghost use mathlib.Core.Path.{_≡_};
 ghost use Prim.Native.Nat.{_+_, _≤_};
 ghost use lib.Dec.{leb};
 ghost use Rattle.model.specs.Layout.{most, wordAt, lengthWord};
+ghost use Rattle.model.specs.Insert as side;
 ghost use Rattle.model.specs.Nodes.{Grown};
 ghost use Rattle.node.specs.Reading.{Within};
-ghost use Rattle.standing.specs.Heads.{Rest, ClosedIn};
-ghost use Rattle.fix.specs.Repairs.{Mending, Mends, Emptied, chosen, Fixing, Ended};
+ghost use Rattle.standing.specs.Heads.{Rest};
+ghost use Rattle.fix.specs.Repairs.{Merges, MergeCall, Stealing, StealCall, Mending, Mends, Emptied, chosen, Fixing, Ended};
 
 // Two neighbours, and the place of the pair between them in their parent.
 pub struct BalancingContext {
@@ -75,6 +75,52 @@ pub fn can_merge(a: &[u64], left: NodeNo, right: NodeNo) -> bool
 {
     let n = len(a, left) + 1;
     n + len(a, right) <= CAPACITY
+}
+
+// Two neighbours merged into the left one, and counts set right: of that, and of the parent, where it changes nothing.
+pub fn do_merge(a: &mut [u64], parent: NodeNo, at: Place, left: NodeNo, right: NodeNo)
+    requires { ⌜ Merges (now a) (record { parent = parent; at = at; left = left; right = right }) ⌝ }
+    ensures { λ _. ⌜ MergeCall (now (a .entry)) (now (a .exit)) (record { parent = parent; at = at; left = left; right = right }) ⌝ }
+{
+    balance::do_merge(a, parent, at, left, right);
+    set_right(a, left);
+    settle(a, parent);
+}
+
+// Pairs moved from the left neighbour through the parent, and counts set right: of both, and of the parent, where it changes nothing.
+pub fn bulk_steal_left(
+    a: &mut [u64],
+    parent: NodeNo,
+    at: Place,
+    left: NodeNo,
+    right: NodeNo,
+    count: usize,
+)
+    requires { ⌜ Stealing side.left (now a) (record { parent = parent; at = at; left = left; right = right }) count ⌝ }
+    ensures { λ _. ⌜ StealCall side.left (now (a .entry)) (now (a .exit)) (record { parent = parent; at = at; left = left; right = right }) count ⌝ }
+{
+    balance::bulk_steal_left(a, parent, at, left, right, count);
+    set_right(a, left);
+    set_right(a, right);
+    settle(a, parent);
+}
+
+// Pairs moved from the right neighbour through the parent, and counts set right: of both, and of the parent, where it changes nothing.
+pub fn bulk_steal_right(
+    a: &mut [u64],
+    parent: NodeNo,
+    at: Place,
+    left: NodeNo,
+    right: NodeNo,
+    count: usize,
+)
+    requires { ⌜ Stealing side.right (now a) (record { parent = parent; at = at; left = left; right = right }) count ⌝ }
+    ensures { λ _. ⌜ StealCall side.right (now (a .entry)) (now (a .exit)) (record { parent = parent; at = at; left = left; right = right }) count ⌝ }
+{
+    balance::bulk_steal_right(a, parent, at, left, right, count);
+    set_right(a, left);
+    set_right(a, right);
+    settle(a, parent);
 }
 
 // A node with too few pairs is merged with its sibling, or pairs are moved to it through the parent.

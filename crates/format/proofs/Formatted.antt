@@ -11,9 +11,9 @@ use lib.Seq.{take-all}
 use borrow.Author.Tests.{eq-eqb, ne-eqb}
 use Rattle.model.specs.declared.Answer.the-variants.{Done, BadSize}
 use Rattle.model.specs.Lists.{count, pad}
-use Rattle.model.specs.Layout.{none, formatNumber, headerSize, nodeSize, largestCount, free, leaf, base, Sized, formatWord, countWord, offsetWord, firstFreeWord, freeWord, stateWord, parentWord, frame, nodeWords, cells, arena}
+use Rattle.model.specs.Layout.{none, formatNumber, headerSize, nodeSize, largestCount, free, leaf, base, Sized, formatWord, countWord, offsetWord, firstFreeWord, freeWord, stateWord, parentWord, frame, nodeWordsBy, nodeWords, cells, arenaBy}
 use Rattle.model.specs.State.{formatted}
-use Rattle.model.specs.Words.{Block, freeVal, firstOr, chainBlocks, valAt, nodesFrom, headerOf, wordsOf}
+use Rattle.model.specs.Words.{Block, freeVal, firstOr, chainBlocks, valAt, nodesFrom, headerOf, wordsOfBy, wordsOf}
 use Rattle.model.specs.Promise.{AnyCount, Format}
 use Rattle.slices.specs.Words.{splice}
 use Rattle.slices.proofs.Laws.{take-on, lent, splice-length}
@@ -63,7 +63,7 @@ chained i zero = refl
 chained i (suc k) = ap₂ _∷_ (rw (eq-eqb i i refl, valAt)) (skip _ (chainBlocks (count (suc i) k)) (suc i) k (omega arith) ∙ chained (suc i) k)
 
 pub formatted-words : (n : ℕ) → 1 ≤ n → wordsOf (formatted n) ≡ headerOf (formatted n) ++ (nodeWords (emptyNode leaf none) ++ cells (freeNodes 1 (n - 1)))
-unfolding wordsOf arena
+unfolding wordsOfBy arenaBy
 formatted-words zero l = absurd (omega arith)
 formatted-words (suc n) l =
     let d : suc n - 1 ≡ n = omega arith in
@@ -84,13 +84,13 @@ written l p i n e u k d =
     rw (d, take-on (take i l) (p ++ drop n (drop i l)) i n t) (ap (λ x. take i l ++ x) (take-whole p (drop n (drop i l)) n k))
 
 pub node-long : (state link : ℕ) → length (nodeWords (emptyNode state link)) ≡ nodeSize
-unfolding nodeWords frame pad
+unfolding nodeWordsBy frame pad
 node-long state link = refl
 
 -- ---- what was written over zeros
 
 pub node-words : (l : List ℕ) (state link : ℕ) → l ≡ replicate nodeSize 0 → set (set l stateWord state) parentWord link ≡ nodeWords (emptyNode state link)
-unfolding nodeWords frame pad
+unfolding nodeWordsBy frame pad
 node-words l state link e = rw e refl
 
 count-long : (i n : ℕ) → length (count i n) ≡ n

@@ -18,7 +18,7 @@ chainAfter i n = count (i + 1) (n - (i + 1))
 
 -- a node with no pairs and no edges
 abbrev pub emptyNode : ℕ → ℕ → NodeVal
-emptyNode state link = record { state = state; parent = link; place = 0; pairs = []; edges = [] }
+emptyNode state link = record { state = state; parent = link; place = 0; pairs = []; edges = []; total = 0 }
 
 -- the free nodes from i on, k of them, each with the next
 abbrev pub freeNodes : ℕ → ℕ → List NodeVal

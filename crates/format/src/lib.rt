@@ -65,7 +65,7 @@ fn write_header(s: &mut [u64], count: usize)
     let first = next(0, count);
     let free = count - 1;
     clear(s);
-    s[FORMAT] = 1;
+    s[FORMAT] = 2;
     s[COUNT] = count as u64;
     s[OFFSET] = HEADER as u64;
     s[FIRST_FREE] = first;

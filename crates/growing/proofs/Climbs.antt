@@ -16,7 +16,12 @@ use Rattle.model.specs.Words.{rootNo, headerOf, nodesIn}
 use Rattle.model.specs.Sound.{RootFull}
 use Rattle.model.specs.Promise.{Holds}
 use Rattle.model.proofs.Backward.{height-low}
-use Rattle.model.proofs.Held.{held-of, words-header}
+use Rattle.model.proofs.Held.{held-of, words-header, sound-laid}
+use Rattle.standing.proofs.States.{laid-totals}
+use Rattle.totals.specs.Settling.{ample, Settles}
+use Rattle.growing.proofs.Counts.{push-total, changed}
+use Rattle.growing.proofs.Settled.{fit-settles, fit-done}
+use Rattle.totals.proofs.Siblings.{SettleCall}
 use Rattle.model.proofs.Plug.{length-fill}
 use Rattle.model.proofs.Climb.{halved, rise-full}
 use Rattle.node.specs.declared.NodeNo.{NodeNo}
@@ -34,10 +39,10 @@ use Rattle.standing.proofs.Leads.{one-self, link-parent, link-place}
 use Rattle.standing.proofs.Relinks.{body-edges}
 use Rattle.standing.proofs.Scenes.{closed-of, enter}
 use Rattle.standing.specs.Heads.{Rest, restOf, headWords, topOf, ClosedIn}
-use Rattle.growing.specs.Climbs.{depth, OpenIn, Climbing, Going}
+use Rattle.growing.specs.Climbs.{depth, OpenBut, OpenIn, FitRaw, Climbing, Going}
 use Rattle.shrinking.proofs.Items.{edgeIn}
 use Rattle.growing.proofs.Bodies.{}
-use Rattle.growing.proofs.Steps.{start, node-in, new-root, push-ready, push-long, push-step}
+use Rattle.growing.proofs.Steps.{start, node-in, new-root, push-ready, push-long, push-step, Kp}
 use Rattle.standing.proofs.Heads.{plug-root, plug-top}
 use Rattle.growing.proofs.Gaps.{FitIn, FitCall, with-first, fit-in, fit-held}
 
@@ -93,6 +98,7 @@ module _ {w : List ℕ} {s : State} (o : Holds w s) where
         arena = rw d at a;
         stand = start c (s .free) (enter c tt (s .free) (rw e (closed-of o)));
         many = held-of (o .sound) .many;
+        told = laid-totals (sound-laid (o .sound));
       }
 
   pub begin : (d : Handle) (y : EdgeAt s d) → needed (y .way) ≤ length (s .free) → (p : Pair) → Going w (restOf s) 0 (d .node .0) (d .at .0) 0 (header w heightWord) p (rise (y .way) tt p tt (s .free))
@@ -177,7 +183,8 @@ PushCall w w₁ n = (hd : List ℕ) (ns : List NodeVal) (free : List ℕ) → Pu
 pub record Crown (w : List ℕ) (g : Rest) (p : Pair) (r : ℕ) (t : Grown) : Type 0 where
   pub ready : Has w (λ hd ns. Pushable hd ns)
   pub fits : (w₁ : List ℕ) (n : ℕ) → PushCall w w₁ n → FitIn 1 w₁ n 0 r
-  pub out : (w₁ : List ℕ) (n : ℕ) → PushCall w w₁ n → (w₂ : List ℕ) → FitCall 1 w₁ w₂ n 0 p r → ClosedIn w₂ g t
+  pub settles : (w₁ : List ℕ) (n : ℕ) → PushCall w w₁ n → (w₂ : List ℕ) → FitCall 1 w₁ w₂ n 0 p r → Has w₂ (λ hd ns. Settles hd ns n)
+  pub out : (w₁ : List ℕ) (n : ℕ) → PushCall w w₁ n → (w₂ : List ℕ) → FitCall 1 w₁ w₂ n 0 p r → (w₃ : List ℕ) → SettleCall w₂ w₃ n → ClosedIn w₃ g t
 
 module _ {w : List ℕ} {g : Rest} {h : ℕ} (x y : Tree (suc h)) (p : Pair) (m : ℕ) (free : List ℕ) (H : OpenIn w g (top {h = suc h}) x y (m ∷ free)) (tall : suc h ≤ largestHeight + 1) where
   abbrev hd : List ℕ
@@ -189,7 +196,10 @@ module _ {w : List ℕ} {g : Rest} {h : ℕ} (x y : Tree (suc h)) (p : Pair) (m 
   push-fine : PushReady hd (H .nodes) (m ∷ free)
   push-fine = push-ready x y m free O hd refl refl refl (omega arith)
 
-  pushed : (w₁ : List ℕ) (n : ℕ) → PushCall w w₁ n → (n ≡ m) × OpenIn w₁ g (under (new-root x y m free O hd refl) (top {h = suc (suc h)})) x y free
+  new-none : nth (H .nodes) m .total ≡ 0
+  new-none = ap (λ (v : NodeVal). v .total) (O .chain .0)
+
+  abbrev pushed : (w₁ : List ℕ) (n : ℕ) → PushCall w w₁ n → (n ≡ m) × OpenBut (m ∷ []) w₁ g (under (new-root x y m free O hd refl) (top {h = suc (suc h)})) x y free
   pushed w₁ n call =
       let q = call hd (H .nodes) (m ∷ free) push-fine (H .arena) in
       let e : pushHead hd (m ∷ free) ≡ headWords g m (suc h) free = (let b : h + 1 ≡ suc h = omega arith in rw b refl) in (
@@ -199,14 +209,29 @@ module _ {w : List ℕ} {g : Rest} {h : ℕ} (x y : Tree (suc h)) (p : Pair) (m 
           arena = rw e at (q .1);
           stand = push-step x y m free O hd refl;
           many = push-long x y m free O hd refl ∙ H .many;
+          told = changed (H .nodes) _ [] (m ∷ []) _ (Kp x y m free O hd refl) (push-total hd (m ∷ free) (H .nodes) new-none) (λ q u. refl) (H .told);
         },
       )
+
+  new-low : (w₁ : List ℕ) (n : ℕ) (call : PushCall w w₁ n) → nth (pushed w₁ n call .1 .nodes) m .total ≤ ample
+  new-low w₁ n call = omega (arith, push-total hd (m ∷ free) (H .nodes) new-none m, new-none)
+
+  raw : (w₁ : List ℕ) (n : ℕ) → PushCall w w₁ n → (w₂ : List ℕ) → FitCall 1 w₁ w₂ n 0 p (y .no) → FitRaw w₂ g (new-root x y m free O hd refl) (top {h = suc (suc h)}) x y p free
+  raw w₁ n call w₂ fit =
+      let q = pushed w₁ n call in
+      fit-held (new-root x y m free O hd refl) top x y free (q .1) refl p w₂ (rw (q .0) at fit) (λ q u. u) (new-low w₁ n call)
 
   crowned : Crown w g p (y .no) (rise (top {h = suc h}) x p y (m ∷ free))
   crowned = record {
     ready = record { head = hd; nodes = H .nodes; arena = H .arena; holds = (m ∷ free, push-fine) };
     fits = λ w₁ n call. let q = pushed w₁ n call in rw (q .0) (fit-in (new-root x y m free O hd refl) top x y free (q .1) refl);
-    out = λ w₁ n call w₂ fit. let q = pushed w₁ n call in fit-held (new-root x y m free O hd refl) top x y free (q .1) refl p w₂ (rw (q .0) at fit);
+    settles = λ w₁ n call w₂ fit.
+        let q = raw w₁ n call w₂ fit in
+        let e = pushed w₁ n call .0 in
+        rw e (record { head = _; nodes = q .nodes; arena = q .arena; holds = fit-settles (new-root x y m free O hd refl) top x y p free q });
+    out = λ w₁ n call w₂ fit w₃ settle.
+        let e = pushed w₁ n call .0 in
+        fit-done (new-root x y m free O hd refl) top x y p free (raw w₁ n call w₂ fit) w₃ (rw e at settle);
   }
 
 module _ {w : List ℕ} {g : Rest} (node levels r : ℕ) {p : Pair} {t : Grown} (k : Climbing w g node levels p r t) where

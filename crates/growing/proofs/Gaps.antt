@@ -3,12 +3,13 @@
 use Prim.Native.Nat.{ℕ, suc, _+_, pred, _≤_, _<_}
 use native.Mathlib.Nat.{not-suc-le-zero}
 use native.Mathlib.Omega.{arith}
-use mathlib.Core.Path.{_≡_, refl, _∙_, sym, subst}
+use mathlib.Core.Path.{_≡_, refl, ap, _∙_, sym, subst}
 use mathlib.Core.Bool.{true, false}
 use mathlib.Core.List.{List, [], _∷_}
 use lib.ListN.{length}
 use borrow.Author.Tests.{le-leb, lt-leb}
-use Rattle.model.specs.Layout.{most, NodeVal, wordAt, lengthWord, Arena}
+use Rattle.model.specs.Layout.{most, NodeVal, nth, wordAt, lengthWord, Arena}
+use Rattle.model.specs.Lists.{times}
 use Rattle.model.specs.Tree.{Pair, Tree, Frame, Ctx, top, under, plug, fill}
 use Rattle.model.specs.Nodes.{taken, untaken}
 use Rattle.model.specs.Words.{rootNo}
@@ -19,12 +20,17 @@ use Rattle.node.proofs.Reading.{within, len-is}
 use Rattle.store.specs.Links.{takeHead}
 use Rattle.leaf.specs.Split.{splitNodes, CutReady, Cuttable, Cut}
 use Rattle.standing.specs.Standing.{rootOf}
-use Rattle.standing.proofs.Scenes.{close}
+use Rattle.standing.proofs.Scenes.{close, zoom-out}
 use Rattle.standing.proofs.Heads.{plug-root, plug-top}
 use Rattle.growing.specs.Steps.{fitAt, FitsAt, Splits, half}
 use Rattle.standing.specs.Heads.{Rest, headWords, topOf, ClosedIn}
-use Rattle.growing.specs.Climbs.{OpenIn, Gap, Fitted, Risen}
-use Rattle.growing.proofs.Steps.{node-in, node-pairs, fit-ready, fitted, fit-long, fit-step, cut-ready, half-ready, risen, split-long, split-step}
+use Rattle.growing.specs.Climbs.{OpenBut, OpenIn, Gap, Fitted, Risen, FitRaw, FittedRaw, RisenRaw}
+use Rattle.standing.specs.Totals.{TotalsBut}
+use Rattle.totals.specs.Settling.{ample}
+use Rattle.totals.proofs.Siblings.{Same}
+use Rattle.growing.proofs.Counts.{fit-total, split-total, changed}
+use Rattle.growing.proofs.Settled.{node-low}
+use Rattle.growing.proofs.Steps.{node-in, node-pairs, fit-ready, fitted, fit-kept, fit-long, fit-step, K, cut-ready, half-ready, risen, split-long, split-step}
 
 -- ---- what the store's calls are known to do, for a leaf (0) and an internal node alike
 
@@ -50,7 +56,7 @@ with-first {w} {g} c x y free l H = subst (λ (t : List ℕ). OpenIn w g c x y t
 
 -- ---- a pair that fits
 
-module _ {w : List ℕ} {g : Rest} {h : ℕ} (f : Frame (Tree h)) (c : Ctx (suc h)) (x y : Tree h) (free : List ℕ) (H : OpenIn w g (under f c) x y free) where
+module _ {us w : List ℕ} {g : Rest} {h : ℕ} (f : Frame (Tree h)) (c : Ctx (suc h)) (x y : Tree h) (free : List ℕ) (H : OpenBut us w g (under f c) x y free) where
   pub node-known : Within w (f .no) × (wordAt w (f .no) lengthWord ≡ length (f .left) + length (f .right)) × (length (f .left) + length (f .right) ≤ most)
   node-known =
       let o = node-in f c x y free (H .stand) in
@@ -61,15 +67,17 @@ module _ {w : List ℕ} {g : Rest} {h : ℕ} (f : Frame (Tree h)) (c : Ctx (suc 
     pub fit-in : FitIn h w (f .no) (length (f .left)) (rootNo h y)
     fit-in = record { head = _; nodes = H .nodes; arena = H .arena; holds = fit-ready f c x y free (H .stand) room }
 
-    pub fit-held : (p : Pair) (w′ : List ℕ) → FitCall h w w′ (f .no) (length (f .left)) p (rootNo h y) → ClosedIn w′ g (record { whole = plug (under (record { no = f .no; left = f .left; right = record { pair = p; edge = y } ∷ f .right }) c) x; free = free })
-    fit-held p w′ call =
-        let u = under (fitted f c x y free (H .stand) p) c in
-        let s = fit-step f c x y free (H .stand) p in
+    pub fit-held : (p : Pair) (w′ : List ℕ) → FitCall h w w′ (f .no) (length (f .left)) p (rootNo h y) → ((q : ℕ) → times q (f .no ∷ []) ≡ 0 → times q us ≡ 0) → nth (H .nodes) (f .no) .total ≤ ample → FitRaw w′ g f c x y p free
+    fit-held p w′ call sub low =
+        let n = fitAt h (H .nodes) (f .no) (length (f .left)) p (rootNo h y) in
+        let s = fit-total h (H .nodes) (f .no) (length (f .left)) p (rootNo h y) in
         record {
-          nodes = fitAt h (H .nodes) (f .no) (length (f .left)) p (rootNo h y);
-          arena = rw (plug-root u x, plug-top u x) (call _ (H .nodes) (fit-ready f c x y free (H .stand) room) (H .arena));
-          stand = close u x free s;
+          nodes = n;
+          arena = call _ (H .nodes) (fit-ready f c x y free (H .stand) room) (H .arena);
+          stand = zoom-out (fitted f c x y free (H .stand) p) c x free (fit-step f c x y free (H .stand) p);
           many = fit-long f c x y free (H .stand) p ∙ H .many;
+          told = changed (H .nodes) n us (f .no ∷ []) _ (fit-kept f c x y free (H .stand) p) s sub (H .told);
+          low = subst (λ (k : ℕ). k ≤ ample) (sym (s (f .no))) low;
         }
 
 -- ---- a full node
@@ -94,7 +102,7 @@ module _ {w : List ℕ} {g : Rest} {h : ℕ} (f : Frame (Tree h)) (c : Ctx (suc 
   cut-in = record { head = hd; nodes = H .nodes; arena = H .arena; holds = ((m ∷ free, ready .0), ready .1) }
 
   module _ (w₁ : List ℕ) (r : ℕ) (up : Pair) (cut : CutCall h w w₁ (f .no) (pt .place) r up) where
-    done : Cut (m ∷ free) (H .nodes) (f .no) (pt .place) r up × Arena w₁ hd′ (splitNodes (H .nodes) (f .no) m (pt .place))
+    pub done : Cut (m ∷ free) (H .nodes) (f .no) (pt .place) r up × Arena w₁ hd′ (splitNodes (H .nodes) (f .no) m (pt .place))
     done = cut hd (H .nodes) (m ∷ free) (ready .0) (ready .1) (H .arena)
 
     pub half-in : FitIn h w₁ (half (pt .side) (f .no) m) (pt .edge) (rootNo h y)
@@ -106,12 +114,19 @@ module _ {w : List ℕ} {g : Rest} {h : ℕ} (f : Frame (Tree h)) (c : Ctx (suc 
     pub right-is : m ≡ r
     right-is = sym (done .0 .right-is)
 
-    pub split-held : (w₂ : List ℕ) → FitCall h w₁ w₂ (half (pt .side) (f .no) m) (pt .edge) p (rootNo h y) → OpenIn w₂ g c ((halved f c x p y (m ∷ free)) .left) ((halved f c x p y (m ∷ free)) .right) free
+    pub same-counts : Same (H .nodes) (fitAt h (splitNodes (H .nodes) (f .no) m (pt .place)) (half (pt .side) (f .no) m) (pt .edge) p (rootNo h y))
+    same-counts q = fit-total h (splitNodes (H .nodes) (f .no) m (pt .place)) (half (pt .side) (f .no) m) (pt .edge) p (rootNo h y) q ∙ split-total (H .nodes) (f .no) m (pt .place) (ap (λ (v : NodeVal). v .total) (H .stand .chain .0)) q
+
+    pub split-low : (w₂ : List ℕ) → nth (H .nodes) (f .no) .total ≤ ample → nth (fitAt h (splitNodes (H .nodes) (f .no) m (pt .place)) (half (pt .side) (f .no) m) (pt .edge) p (rootNo h y)) (f .no) .total ≤ ample
+    split-low w₂ low = subst (λ (k : ℕ). k ≤ ample) (sym (same-counts (f .no))) low
+
+    abbrev pub split-held : (w₂ : List ℕ) → FitCall h w₁ w₂ (half (pt .side) (f .no) m) (pt .edge) p (rootNo h y) → OpenBut (f .no ∷ m ∷ []) w₂ g c ((halved f c x p y (m ∷ free)) .left) ((halved f c x p y (m ∷ free)) .right) free
     split-held w₂ call = record {
       nodes = fitAt h (splitNodes (H .nodes) (f .no) m (pt .place)) (half (pt .side) (f .no) m) (pt .edge) p (rootNo h y);
       arena = call hd′ _ (half-ready f c x y p m free (H .stand) full few) (done .1);
       stand = split-step f c x y p m free (H .stand) full few;
       many = split-long f c x y p m free (H .stand) full few ∙ H .many;
+      told = changed (H .nodes) _ [] (f .no ∷ m ∷ []) _ (K f c x y p m free (H .stand) full few) same-counts (λ q u. refl) (H .told);
     }
 
 -- ---- the same of a gap, in the code's own numbers
@@ -139,10 +154,10 @@ module _ {w : List ℕ} {h node at child : ℕ} (s : Gap w h node at child) (k :
     pub gap-fit : FitIn h w node at child
     gap-fit = rw (s .node-is, s .at-is, s .child-is) at (fit-in (s .frame) (s .way) (s .low) (s .high) (s .free) (s .held) room)
 
-    pub gap-fitted : (p : Pair) (w′ : List ℕ) → FitCall h w w′ node at p child → Fitted s p w′
+    pub gap-fitted : (p : Pair) (w′ : List ℕ) → FitCall h w w′ node at p child → FittedRaw s p w′
     gap-fitted p w′ call =
         let c : FitCall h w w′ (f .no) (length (f .left)) p (rootNo h (s .high)) = rw (← s .node-is, ← s .at-is, ← s .child-is) at call in
-        rw (rise-fits f (s .way) (s .low) p (s .high) (s .free) room) (fit-held f (s .way) (s .low) (s .high) (s .free) (s .held) room p w′ c)
+        record { room = room; raw = fit-held f (s .way) (s .low) (s .high) (s .free) (s .held) room p w′ c (λ q u. refl) (node-low f (s .way) (s .low) (s .high) (s .free) (s .held)) }
 
   module _ (long : most ≤ k) (p : Pair) (mid : ℕ) (em : mid ≡ splitpoint at .place) where
     full : isFull f ≡ true
@@ -164,12 +179,17 @@ module _ {w : List ℕ} {h node at child : ℕ} (s : Gap w h node at child) (k :
       pub gap-half : FitIn h w₁ n′ i′ child
       gap-half = rw (en, ei, ← new-is, ← s .at-is, ← s .node-is, ← s .child-is) (half-in f (s .way) (s .low) (s .high) p (taken (s .free)) (untaken (s .free)) H full w₁ r up cut′)
 
-      pub gap-risen : (w₂ : List ℕ) → FitCall h w₁ w₂ n′ i′ p child → Risen s p w₂ up r
+      pub gap-risen : (w₂ : List ℕ) → FitCall h w₁ w₂ n′ i′ p child → RisenRaw s p w₂ up r
       gap-risen w₂ call =
           let c : FitCall h w₁ w₂ (half (splitpoint (length (f .left)) .side) (f .no) (taken (s .free))) (splitpoint (length (f .left)) .edge) p (rootNo h (s .high)) = rw (en, ei, ← new-is, ← s .at-is, ← s .node-is, ← s .child-is) at call in
+          let F = taken (s .free) in
+          let G = untaken (s .free) in
           record {
-            full = full;
-            pair-is = up-is f (s .way) (s .low) (s .high) p (taken (s .free)) (untaken (s .free)) H full w₁ r up cut′;
-            right-is = new-is;
-            held = split-held f (s .way) (s .low) (s .high) p (taken (s .free)) (untaken (s .free)) H full w₁ r up cut′ w₂ c;
+            risen = record {
+              full = full;
+              pair-is = up-is f (s .way) (s .low) (s .high) p F G H full w₁ r up cut′;
+              right-is = new-is;
+              held = split-held f (s .way) (s .low) (s .high) p F G H full w₁ r up cut′ w₂ c;
+            };
+            low = split-low f (s .way) (s .low) (s .high) p F G H full w₁ r up cut′ w₂ (node-low f (s .way) (s .low) (s .high) (F ∷ G) H);
           }

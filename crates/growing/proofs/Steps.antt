@@ -121,7 +121,7 @@ module _ {h : ℕ} (f : Frame (Tree h)) (c : Ctx (suc h)) (x y : Tree h) (free :
     abbrev pub after-fit : List NodeVal
     after-fit = fitAt h ns (f .no) (length (f .left)) p (rootNo h y)
 
-    fit-kept : Kept ns after-fit (f .no ∷ []) (newChild h (rootNo h y))
+    pub fit-kept : Kept ns after-fit (f .no ∷ []) (newChild h (rootNo h y))
     fit-kept = fitting-kept ns (O .links) (O .few) (f .no) first rest node-in (length (f .left)) (rootNo h y) (omega (arith, node-long)) p h node-body high-takes
 
     fit-body : bodyOf (nth after-fit (f .no)) ≡ contentOf h (fill (f .no) (numbered h (f .left)) (rootNo h x) (numbered h (fitted .right)))
@@ -286,7 +286,7 @@ module _ {h : ℕ} (f : Frame (Tree h)) (c : Ctx (suc h)) (x y : Tree h) (p : Pa
       (high-body ns (O .links) (O .few) (f .no) e r on m (firstOr free) (s .place) om apart (O .chain .0) h body place)
       (goes (length (f .left)))
 
-  K : Kept ns after-split (f .no ∷ m ∷ []) (m ∷ newChild h (rootNo h y))
+  pub K : Kept ns after-split (f .no ∷ m ∷ []) (m ∷ newChild h (rootNo h y))
   K =
       kept-trans (kept-more (f .no ∷ m ∷ []) (m ∷ []) (f .no ∷ m ∷ []) (m ∷ newChild h (rootNo h y)) (λ q z. z) (λ q z. omega arith) K₁)
       (kept-more (f .no ∷ m ∷ []) (newChild h (rootNo h y)) (f .no ∷ m ∷ []) (m ∷ newChild h (rootNo h y)) (λ q z. z) (λ q z. omega arith) (put .keeps))
@@ -366,7 +366,7 @@ module _ {h : ℕ} (x y : Tree (suc h)) (m : ℕ) (free : List ℕ) {ns : List N
     loose = rw er (link-parent (O .root));
   }
 
-  Kp : Kept ns (pushNodes hd (m ∷ free) ns) (m ∷ []) (m ∷ x .no ∷ [])
+  pub Kp : Kept ns (pushNodes hd (m ∷ free) ns) (m ∷ []) (m ∷ x .no ∷ [])
   Kp = rw er at (push-kept hd ns (O .links) m free (firstOr free) crowns)
 
   pub push-ready : firstFree hd ≡ m → freeNodes hd ≡ suc (length free) → header.heightOf hd < largestCount → header.PushReady hd ns (m ∷ free)

@@ -5,12 +5,13 @@ use native.Mathlib.Omega.{arith}
 use mathlib.Core.Path.{_≡_, refl, sym, ap, ap₂, _∙_, subst}
 use mathlib.Core.List.{List, _∷_}
 use lib.Dec.{lit<}
-use lib.ListN.{length, getD, set, length-append}
-use lib.Seq.{set-getD}
+use lib.ListN.{length, getD, set, length-append, length-set}
+use native.Mathlib.Decide.{ℕ-discrete, decLt}
+use lib.Seq.{set-getD, getD-set-same, getD-set-other, set-out}
 use borrow.Author.Tests.{le-leb, lt-leb}
 use Rattle.model.specs.declared.Answer.{Answer}
 use Rattle.model.specs.declared.Answer.the-variants.{Done, Value, Absent, NoRoom, BadArena, BadRange, BadOrder, BadSize, BadImage, Spent, Older}
-use Rattle.model.specs.Layout.{most, largestCount, header, pairsWord, freeWord, NodeVal, nth, Arena}
+use Rattle.model.specs.Layout.{most, largestCount, header, pairsWord, freeWord, NodeVal, nth, blank, Arena}
 use Rattle.model.specs.Tree.{Pair, Item, Tree, Ctx, Whole, plug, fill, flatOf}
 use Rattle.model.specs.Search.{Spot, at, gap, search}
 use Rattle.model.specs.Insert.{rise, needed}
@@ -23,7 +24,7 @@ use Rattle.model.proofs.Bounds.{few}
 use Rattle.model.proofs.Decode.{stateOf}
 use Rattle.model.proofs.Forward.{forward}
 use Rattle.model.proofs.Backward.{backward}
-use Rattle.model.proofs.Held.{held-of, words-header}
+use Rattle.model.proofs.Held.{held-of, words-header, sound-laid}
 use Rattle.model.proofs.Plug.{flat-plug, around}
 use Rattle.model.proofs.Descent.{Sought, search-right}
 use Rattle.model.proofs.Climb.{rise-flat}
@@ -39,6 +40,10 @@ use Rattle.navigate.specs.Places.{EdgeAt}
 use Rattle.standing.specs.Standing.{Hole}
 use Rattle.standing.proofs.Scenes.{closed-of, enter, close, closed-words}
 use Rattle.standing.specs.Heads.{restOf, headWords, ClosedIn}
+use Rattle.totals.proofs.Siblings.{replace-told}
+use Rattle.standing.specs.Totals.{totals, due, Totals}
+use Rattle.standing.proofs.States.{laid-totals}
+use Rattle.leaf.specs.Pairs.{withPairs}
 use Rattle.shrinking.proofs.Pairs.{pair-ready, pair-is, replace-long, replace-step}
 use Rattle.standing.proofs.Heads.{plug-root, plug-top}
 use Rattle.insert.specs.Inserts.{Placed, PutIn, spent}
@@ -131,6 +136,7 @@ module _ {w : List ℕ} {s : State} (o : Holds w s) (k v : ℕ) (d : Handle) (y 
           arena = rw header-same at (rw (← y .node-is, ← y .at-is) at (c .1));
           stand = close (y .ctx) is (s .free) (replace-step (y .ctx) (y .no) (y .left) (y .hole) (y .item) (y .right) (s .free) H p);
           many = replace-long (y .ctx) (y .no) (y .left) (y .hole) (y .item) (y .right) (s .free) H p ∙ held-of (o .sound) .many;
+          told = replace-told (nodesIn s) (y .no) (length (y .left)) p (laid-totals (sound-laid (o .sound)));
         };
       })
 
@@ -220,6 +226,6 @@ module _ {w : List ℕ} {s : State} (o : Holds w s) (k v : ℕ) {w₁ : List ℕ
       let d = put k v s in
       let a = spends _ (q .held .nodes) (count _ (q .held .nodes) (q .held .arena)) in
       record {
-        left = closed-words (d .state) (put-sound k v s (o .sound)) a (rw (q .size-is, q .pairs-are, q .mark-is, mark-spent k (s .mark), seen-spent k (s .mark)) refl) (q .held .many ∙ sym (q .size-is)) (q .held .stand);
+        left = closed-words (d .state) (put-sound k v s (o .sound)) a (rw (q .size-is, q .pairs-are, q .mark-is, mark-spent k (s .mark), seen-spent k (s .mark)) refl) (q .held .many ∙ sym (q .size-is)) (q .held .stand) (q .held .told);
         said = sym (q .said);
       }

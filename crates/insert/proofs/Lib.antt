@@ -1,3 +1,4 @@
 pub mod Targets
 pub mod Needed
 pub mod Ends
+pub mod Settles

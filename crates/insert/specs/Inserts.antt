@@ -22,7 +22,7 @@ use Rattle.leaf.specs.declared.SplitResult.{SplitResult}
 use Rattle.search.specs.declared.Handle.{Handle}
 use Rattle.navigate.specs.Places.{EdgeAt}
 use Rattle.standing.specs.Heads.{Rest, restOf, ClosedIn}
-use Rattle.growing.specs.Climbs.{Gap, Fitted, Risen, Climbing}
+use Rattle.growing.specs.Climbs.{Gap, Fitted, Risen, FittedRaw, RisenRaw, Climbing}
 use Rattle.insert.specs.declared.Inserted.{Inserted}
 use Rattle.insert.specs.declared.Inserted.the-variants.{Fit, Split}
 use Rattle.insert.specs.declared.Target.{Target}
@@ -36,6 +36,20 @@ targetOf (Right i) l r = record { node = r; at = i }
 abbrev pub Outcome : {w : List ℕ} {h node at child : ℕ} → Gap w h node at child → Pair → List ℕ → Inserted → Type 0
 Outcome s p w Fit = Fitted s p w
 Outcome s p w (Split r) = Risen s p w (pairOf (r .kv)) (r .right .0)
+
+-- before the counts are set right
+abbrev pub RawOutcome : {w : List ℕ} {h node at child : ℕ} → Gap w h node at child → Pair → List ℕ → Inserted → Type 0
+RawOutcome s p w Fit = FittedRaw s p w
+RawOutcome s p w (Split r) = RisenRaw s p w (pairOf (r .kv)) (r .right .0)
+
+pub record Unsettled (w : List ℕ) (n : ℕ) (r : Inserted) : Type 0 where
+  pub was : List ℕ
+  pub height : ℕ
+  pub at : ℕ
+  pub child : ℕ
+  pub gap : Gap was height n at child
+  pub pair : Pair
+  pub outcome : RawOutcome gap pair w r
 
 -- a gap in an internal node
 pub record InnerGap (w : List ℕ) (node at child : ℕ) : Type 0 where

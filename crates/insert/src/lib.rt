@@ -21,12 +21,15 @@ use node::splitpoint;
 use search::Handle;
 use search::SearchResult;
 use search::search_tree;
+use totals::set_right;
+use totals::settle;
 ghost use mathlib.Core.Path.{_≡_};
 ghost use mathlib.Core.List.{List};
 ghost use Prim.Native.Nat.{ℕ, suc, _≤_, max};
 ghost use lib.ListN.{length};
 ghost use Rattle.model.specs.Layout.{headerSize, NodeVal, Arena};
 ghost use Rattle.model.specs.Nodes.{Grown};
+ghost use Rattle.model.specs.Tree.{Pair};
 ghost use Rattle.model.specs.Insert.{rise, needed};
 ghost use Rattle.model.specs.State as model;
 ghost use Rattle.model.specs.WellFormed.{WellFormed};
@@ -35,7 +38,7 @@ ghost use Rattle.node.specs.Reading.{pairOf};
 ghost use Rattle.navigate.specs.Places.{In, EdgeAt};
 ghost use Rattle.standing.specs.Heads.{Rest, restOf, ClosedIn};
 ghost use Rattle.growing.specs.Climbs.{Gap, Climbing};
-ghost use Rattle.insert.specs.Inserts.{targetOf, Outcome, InnerGap, ClimbIn, AtRoot, Roomy, PutIn, spent};
+ghost use Rattle.insert.specs.Inserts.{targetOf, RawOutcome, Outcome, Unsettled, InnerGap, ClimbIn, AtRoot, Roomy, PutIn, spent};
 
 // What an insertion leaves for the level above: nothing, or a pair and the node right of it.
 pub enum Inserted {
@@ -59,10 +62,10 @@ fn insertion_edge(insertion: LeftOrRight, left: NodeNo, right: NodeNo) -> Target
     }
 }
 
-// Puts a pair in at a leaf edge. A full leaf is split.
-fn insert_leaf(a: &mut [u64], n: NodeNo, at: Place, kv: Kv) -> Inserted
+// Puts a pair in at a leaf edge. A full leaf is split. Counts are left as they were.
+fn fit_leaf(a: &mut [u64], n: NodeNo, at: Place, kv: Kv) -> Inserted
     requires { ⌜ Gap (now a) 0 (n .0) (at .0) 0 ⌝ }
-    ensures { λ r. ⌜ ((s : Gap (now (a .entry)) 0 (n .0) (at .0) 0) → Outcome s (pairOf kv) (now (a .exit)) r) ⌝ }
+    ensures { λ r. ⌜ ((s : Gap (now (a .entry)) 0 (n .0) (at .0) 0) → RawOutcome s (pairOf kv) (now (a .exit)) r) ⌝ }
 {
     if len(a, n) < CAPACITY {
         leaf::insert_fit(a, n, at, kv);
@@ -80,10 +83,10 @@ fn insert_leaf(a: &mut [u64], n: NodeNo, at: Place, kv: Kv) -> Inserted
     Inserted::Split(split)
 }
 
-// Puts a pair in at an edge of an internal node, and the node right of it. A full node is split.
-fn insert_internal(a: &mut [u64], n: NodeNo, at: Place, kv: Kv, child: NodeNo) -> Inserted
+// Puts a pair in at an edge of an internal node, and the node right of it. A full node is split. Counts are left as they were.
+fn fit_internal(a: &mut [u64], n: NodeNo, at: Place, kv: Kv, child: NodeNo) -> Inserted
     requires { ⌜ InnerGap (now a) (n .0) (at .0) (child .0) ⌝ }
-    ensures { λ r. ⌜ ((h : ℕ) (s : Gap (now (a .entry)) (suc h) (n .0) (at .0) (child .0)) → Outcome s (pairOf kv) (now (a .exit)) r) ⌝ }
+    ensures { λ r. ⌜ ((h : ℕ) (s : Gap (now (a .entry)) (suc h) (n .0) (at .0) (child .0)) → RawOutcome s (pairOf kv) (now (a .exit)) r) ⌝ }
 {
     if len(a, n) < CAPACITY {
         internal::insert_fit(a, n, at, kv, child);
@@ -101,6 +104,43 @@ fn insert_internal(a: &mut [u64], n: NodeNo, at: Place, kv: Kv, child: NodeNo) -
     Inserted::Split(split)
 }
 
+// Sets right the counts that an insertion in a node has left: of its right half, which no edge leads to yet, and of the node and all above it.
+fn settle_inserted(a: &mut [u64], n: NodeNo, inserted: Inserted)
+    requires { ⌜ Unsettled (now a) (n .0) inserted ⌝ }
+    ensures { λ _. ⌜ ((w : List ℕ) (h at child : ℕ) (s : Gap w h (n .0) at child) (p : Pair) → RawOutcome s p (now (a .entry)) inserted → Outcome s p (now (a .exit)) inserted) ⌝ }
+{
+    match inserted {
+        Inserted::Fit => {
+            settle(a, n);
+        }
+        Inserted::Split(split) => {
+            let right = split.right;
+            set_right(a, right);
+            settle(a, n);
+        }
+    }
+}
+
+// Puts a pair in at a leaf edge.
+fn insert_leaf(a: &mut [u64], n: NodeNo, at: Place, kv: Kv) -> Inserted
+    requires { ⌜ Gap (now a) 0 (n .0) (at .0) 0 ⌝ }
+    ensures { λ r. ⌜ ((s : Gap (now (a .entry)) 0 (n .0) (at .0) 0) → Outcome s (pairOf kv) (now (a .exit)) r) ⌝ }
+{
+    let inserted = fit_leaf(a, n, at, kv);
+    settle_inserted(a, n, inserted);
+    inserted
+}
+
+// Puts a pair in at an edge of an internal node, and the node right of it.
+fn insert_internal(a: &mut [u64], n: NodeNo, at: Place, kv: Kv, child: NodeNo) -> Inserted
+    requires { ⌜ InnerGap (now a) (n .0) (at .0) (child .0) ⌝ }
+    ensures { λ r. ⌜ ((h : ℕ) (s : Gap (now (a .entry)) (suc h) (n .0) (at .0) (child .0)) → Outcome s (pairOf kv) (now (a .exit)) r) ⌝ }
+{
+    let inserted = fit_internal(a, n, at, kv, child);
+    settle_inserted(a, n, inserted);
+    inserted
+}
+
 // The root was split: a new root above it takes the pair.
 fn split_root(a: &mut [u64], split: SplitResult)
     requires { ⌜ AtRoot (now a) split ⌝ }
@@ -110,6 +150,7 @@ fn split_root(a: &mut [u64], split: SplitResult)
     let right = split.right;
     let top = push_internal_level(a);
     internal::insert_fit(a, top, Place(0), kv, right);
+    settle(a, top);
 }
 
 // Puts a new pair in at a leaf edge; splits go up by parent words. There are nodes enough.

@@ -5,8 +5,10 @@ use mathlib.Core.Path.{_≡_}
 use mathlib.Core.Bool.{Bool, true, false}
 use mathlib.Core.List.{List}
 use lib.Dec.{ltb}
-use Rattle.model.specs.Layout.{wordAt, parentWord, keysWord, valuesWord, edgesWord}
-use Rattle.model.specs.WellFormed.{Reached, Zeros, edgeAt}
+use Rattle.model.specs.declared.Layout.{Layout}
+use Rattle.model.specs.declared.Layout.the-variants.{Format2}
+use Rattle.model.specs.Layout.{wordAtBy, parentWord, keysWord, valuesWord, edgesWord}
+use Rattle.model.specs.WellFormed.{Reached, ZerosBy, edgeAtBy}
 use Rattle.inspect.specs.declared.Visit.{Visit}
 use Rattle.inspect.specs.declared.Last.{Last}
 use Rattle.inspect.specs.declared.Last.the-variants.{Start, After}
@@ -20,14 +22,17 @@ abbrev pub reached : Visit → Reached
 reached v = record { below = v .below; fewest = v .fewest; node = v .node .0; parent = v .parent; place = v .place .0 }
 
 -- the words for keys and values that node n does not use, with m pairs, are 0
-pub record RestZero (w : List ℕ) (n m : ℕ) : Type 0 where
-  pub keys : Zeros w n (keysWord + m) valuesWord
-  pub values : Zeros w n (valuesWord + m) edgesWord
+pub record RestZeroBy (f : Layout) (w : List ℕ) (n m : ℕ) : Type 0 where
+  pub keys : ZerosBy f w n (keysWord + m) valuesWord
+  pub values : ZerosBy f w n (valuesWord + m) edgesWord
 
 -- edge i of node n leads to a node whose parent that is
-pub record Leads (w : List ℕ) (count n i : ℕ) : Type 0 where
-  pub inside : edgeAt w n i < count
-  pub parent-is : wordAt w (edgeAt w n i) parentWord ≡ n
+pub record LeadsBy (f : Layout) (w : List ℕ) (count n i : ℕ) : Type 0 where
+  pub inside : edgeAtBy f w n i < count
+  pub parent-is : wordAtBy f w (edgeAtBy f w n i) parentWord ≡ n
+
+abbrev pub Leads : List ℕ → ℕ → ℕ → ℕ → Type 0
+Leads = LeadsBy Format2
 
 -- the key k may come next
 abbrev pub Above : Last → ℕ → Type 0

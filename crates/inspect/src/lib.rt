@@ -1,4 +1,13 @@
 // The checker's tests of single parts: a node's own words, its children's links, the free chain, a key after another, the mark. They only read.
+use formats::base_of;
+use formats::edge_of;
+use formats::key_of;
+use formats::len_of;
+use formats::node_words;
+use formats::parent_idx_of;
+use formats::parent_of;
+use formats::state_of;
+use model::Layout;
 use node::CAPACITY;
 use node::EDGES;
 use node::INTERNAL;
@@ -11,24 +20,17 @@ use node::PARENT;
 use node::PARENT_IDX;
 use node::Place;
 use node::STATE;
+use node::TOTAL;
 use node::VALS;
-use node::WORDS;
-use node::edge;
-use node::key;
-use node::len;
-use node::node_base;
-use node::parent;
-use node::parent_idx;
-use node::state;
 ghost use mathlib.Core.Path.{_≡_};
 ghost use Prim.Native.Nat.{ℕ, _+_, _≤_, _<_};
 ghost use lib.ListN.{length};
-ghost use Rattle.model.specs.Layout.{Sized, least, most, nodeSize};
+ghost use Rattle.model.specs.Layout.{SizedBy, least, most, nodeSizeBy};
 ghost use Rattle.model.specs.Words.{kind};
-ghost use Rattle.model.specs.WellFormed.{UnusedZero, FreeZero, Linked, Zeros, lengthAt, keyAt, edgesUsed};
-ghost use Rattle.model.specs.Shape.{Own, Chain};
-ghost use Rattle.node.specs.Reading.{Within};
-ghost use Rattle.inspect.specs.Tests.{Decides, RestZero, Leads, Above, Marked, reached, rise, ups, steps};
+ghost use Rattle.model.specs.WellFormed.{UnusedZeroBy, FreeZeroBy, LinkedBy, ZerosBy, lengthAtBy, keyAtBy, edgesUsed};
+ghost use Rattle.model.specs.Shape.{OwnBy, ChainBy};
+ghost use Rattle.formats.specs.Within.{WithinBy};
+ghost use Rattle.inspect.specs.Tests.{Decides, RestZeroBy, LeadsBy, Above, Marked, reached, rise, ups, steps};
 
 // From each word for a key to the next one.
 const STEPS: usize = 10;
@@ -49,11 +51,11 @@ pub enum Last {
 }
 
 // Whether the words of a node from `from` up to `to` are 0.
-fn zeros(a: &[u64], n: NodeNo, from: usize, to: usize) -> bool
-    requires { ⌜ Within (now a) (n .0) × (to ≤ nodeSize) ⌝ }
-    ensures { λ r. ⌜ Decides r (Zeros (now (a .entry)) (n .0) from to) ⌝ }
+fn zeros(f: Layout, a: &[u64], n: NodeNo, from: usize, to: usize) -> bool
+    requires { ⌜ WithinBy f (now a) (n .0) × (to ≤ nodeSizeBy f) ⌝ }
+    ensures { λ r. ⌜ Decides r (ZerosBy f (now (a .entry)) (n .0) from to) ⌝ }
 {
-    let b = node_base(n);
+    let b = base_of(f, n);
     let mut all = 0;
     let mut k = from;
     while k < to {
@@ -71,11 +73,11 @@ fn kept(x: u64, k: usize, from: usize) -> u64
 }
 
 // Whether the words for keys and values that a node of n pairs, 5 or more, does not use are 0. The turns are as many whatever n is.
-fn rest_zero(a: &[u64], node: NodeNo, n: usize) -> bool
-    requires { ⌜ Within (now a) (node .0) × (least ≤ n) ⌝ }
-    ensures { λ r. ⌜ Decides r (RestZero (now (a .entry)) (node .0) n) ⌝ }
+fn rest_zero(f: Layout, a: &[u64], node: NodeNo, n: usize) -> bool
+    requires { ⌜ WithinBy f (now a) (node .0) × (least ≤ n) ⌝ }
+    ensures { λ r. ⌜ Decides r (RestZeroBy f (now (a .entry)) (node .0) n) ⌝ }
 {
-    let b = node_base(node);
+    let b = base_of(f, node);
     let mut all = 0;
     let mut i = MIN_LEN;
     while i < CAPACITY {
@@ -101,103 +103,103 @@ fn edges_used(below: usize, n: usize) -> usize
 }
 
 // Whether the words that a node of n pairs does not use are 0.
-fn unused(a: &[u64], v: Visit, n: usize) -> bool
-    requires { ⌜ Within (now a) (v .node .0) × (n ≡ lengthAt (now a) (v .node .0)) × (n ≤ most) ⌝ }
-    ensures { λ r. ⌜ Decides r (UnusedZero (now (a .entry)) (reached v)) ⌝ }
+fn unused(f: Layout, a: &[u64], v: Visit, n: usize) -> bool
+    requires { ⌜ WithinBy f (now a) (v .node .0) × (n ≡ lengthAtBy f (now a) (v .node .0)) × (n ≤ most) ⌝ }
+    ensures { λ r. ⌜ Decides r (UnusedZeroBy f (now (a .entry)) (reached v)) ⌝ }
 {
     let node = v.node;
-    if !zeros(a, node, KEYS + n, VALS) {
+    if !zeros(f, a, node, KEYS + n, VALS) {
         return false;
     }
-    if !zeros(a, node, VALS + n, EDGES) {
+    if !zeros(f, a, node, VALS + n, EDGES) {
         return false;
     }
-    zeros(a, node, EDGES + edges_used(v.below, n), WORDS)
+    zeros(f, a, node, EDGES + edges_used(v.below, n), TOTAL)
 }
 
 // Whether parent and edge index agree with the edge that led here.
-fn linked(a: &[u64], v: Visit) -> bool
-    requires { ⌜ Within (now a) (v .node .0) ⌝ }
-    ensures { λ r. ⌜ Decides r (Linked (now (a .entry)) (reached v)) ⌝ }
+fn linked(f: Layout, a: &[u64], v: Visit) -> bool
+    requires { ⌜ WithinBy f (now a) (v .node .0) ⌝ }
+    ensures { λ r. ⌜ Decides r (LinkedBy f (now (a .entry)) (reached v)) ⌝ }
 {
     let node = v.node;
     let place = v.place;
-    if parent(a, node) != v.parent {
+    if parent_of(f, a, node) != v.parent {
         return false;
     }
-    if parent_idx(a, node) != place.0 as u64 {
+    if parent_idx_of(f, a, node) != place.0 as u64 {
         return false;
     }
     true
 }
 
 // Whether a node's own words are right.
-pub fn own(a: &[u64], count: usize, v: Visit) -> bool
-    requires { ⌜ Sized count (length (now a)) ⌝ }
-    ensures { λ r. ⌜ Decides r (Own (now (a .entry)) count (reached v)) ⌝ }
+pub fn own(f: Layout, a: &[u64], count: usize, v: Visit) -> bool
+    requires { ⌜ SizedBy f count (length (now a)) ⌝ }
+    ensures { λ r. ⌜ Decides r (OwnBy f (now (a .entry)) count (reached v)) ⌝ }
 {
     let node = v.node;
     if node.0 >= count {
         return false;
     }
-    if state(a, node) != kind_of(v.below) {
+    if state_of(f, a, node) != kind_of(v.below) {
         return false;
     }
-    let n = len(a, node);
+    let n = len_of(f, a, node);
     if n < v.fewest {
         return false;
     }
     if n > CAPACITY {
         return false;
     }
-    if !linked(a, v) {
+    if !linked(f, a, v) {
         return false;
     }
-    unused(a, v, n)
+    unused(f, a, v, n)
 }
 
 // The same of a leaf that is not the root.
-pub fn own_leaf(a: &[u64], count: usize, v: Visit) -> bool
-    requires { ⌜ Sized count (length (now a)) × (v .below ≡ 0) × (v .fewest ≡ least) ⌝ }
-    ensures { λ r. ⌜ Decides r (Own (now (a .entry)) count (reached v)) ⌝ }
+pub fn own_leaf(f: Layout, a: &[u64], count: usize, v: Visit) -> bool
+    requires { ⌜ SizedBy f count (length (now a)) × (v .below ≡ 0) × (v .fewest ≡ least) ⌝ }
+    ensures { λ r. ⌜ Decides r (OwnBy f (now (a .entry)) count (reached v)) ⌝ }
 {
     let node = v.node;
     if node.0 >= count {
         return false;
     }
-    if state(a, node) != LEAF {
+    if state_of(f, a, node) != LEAF {
         return false;
     }
-    let n = len(a, node);
+    let n = len_of(f, a, node);
     if n < MIN_LEN {
         return false;
     }
     if n > CAPACITY {
         return false;
     }
-    if !linked(a, v) {
+    if !linked(f, a, v) {
         return false;
     }
-    if !zeros(a, node, EDGES, WORDS) {
+    if !zeros(f, a, node, EDGES, TOTAL) {
         return false;
     }
-    rest_zero(a, node, n)
+    rest_zero(f, a, node, n)
 }
 
 // Whether all edges of a node of n pairs lead to nodes whose parent it is. This is looked at before any of them is followed, so that the
 // reads of the children overlap.
-pub fn lead(a: &[u64], count: usize, node: NodeNo, n: usize) -> bool
-    requires { ⌜ Sized count (length (now a)) × (node .0 < count) × (n ≤ most) ⌝ }
-    ensures { λ r. ⌜ Decides r ((i : ℕ) → i < n + 1 → Leads (now (a .entry)) count (node .0) i) ⌝ }
+pub fn lead(f: Layout, a: &[u64], count: usize, node: NodeNo, n: usize) -> bool
+    requires { ⌜ SizedBy f count (length (now a)) × (node .0 < count) × (n ≤ most) ⌝ }
+    ensures { λ r. ⌜ Decides r ((i : ℕ) → i < n + 1 → LeadsBy f (now (a .entry)) count (node .0) i) ⌝ }
 {
     let edges = n + 1;
     let mut i = 0;
     while i < edges {
-        let child = edge(a, node, Place(i));
+        let child = edge_of(f, a, node, Place(i));
         if child.0 >= count {
             return false;
         }
-        if parent(a, child) != node.0 as u64 {
+        if parent_of(f, a, child) != node.0 as u64 {
             return false;
         }
         i += 1;
@@ -206,20 +208,20 @@ pub fn lead(a: &[u64], count: usize, node: NodeNo, n: usize) -> bool
 }
 
 // Whether a free node's words are right, all but the link.
-fn own_free(a: &[u64], n: NodeNo) -> bool
-    requires { ⌜ Within (now a) (n .0) ⌝ }
-    ensures { λ r. ⌜ Decides r (FreeZero (now (a .entry)) (n .0)) ⌝ }
+fn own_free(f: Layout, a: &[u64], n: NodeNo) -> bool
+    requires { ⌜ WithinBy f (now a) (n .0) ⌝ }
+    ensures { λ r. ⌜ Decides r (FreeZeroBy f (now (a .entry)) (n .0)) ⌝ }
 {
-    if !zeros(a, n, STATE, PARENT) {
+    if !zeros(f, a, n, STATE, PARENT) {
         return false;
     }
-    zeros(a, n, PARENT_IDX, WORDS)
+    zeros(f, a, n, PARENT_IDX, node_words(f))
 }
 
 // Whether just `free` free nodes are chained from `first` on, in rising order.
-pub fn chain(a: &[u64], count: usize, first: u64, free: u64) -> bool
-    requires { ⌜ Sized count (length (now a)) ⌝ }
-    ensures { λ r. ⌜ Decides r (Chain (now (a .entry)) count free first) ⌝ }
+pub fn chain(f: Layout, a: &[u64], count: usize, first: u64, free: u64) -> bool
+    requires { ⌜ SizedBy f count (length (now a)) ⌝ }
+    ensures { λ r. ⌜ Decides r (ChainBy f (now (a .entry)) count free first) ⌝ }
 {
     let mut at = first;
     let mut left = free;
@@ -228,10 +230,10 @@ pub fn chain(a: &[u64], count: usize, first: u64, free: u64) -> bool
             return false;
         }
         let n = NodeNo(at as usize);
-        if !own_free(a, n) {
+        if !own_free(f, a, n) {
             return false;
         }
-        let next = parent(a, n);
+        let next = parent_of(f, a, n);
         if next <= at {
             return false;
         }
@@ -259,15 +261,15 @@ fn up(x: u64, y: u64) -> usize
 }
 
 // How many of the words for keys, but the last, are below the next one.
-pub fn ascents(a: &[u64], n: NodeNo) -> usize
-    requires { ⌜ Within (now a) (n .0) ⌝ }
-    ensures { λ r. ⌜ r ≡ ups (keyAt (now (a .entry)) (n .0)) steps ⌝ }
+pub fn ascents(f: Layout, a: &[u64], n: NodeNo) -> usize
+    requires { ⌜ WithinBy f (now a) (n .0) ⌝ }
+    ensures { λ r. ⌜ r ≡ ups (keyAtBy f (now (a .entry)) (n .0)) steps ⌝ }
 {
-    let mut low = key(a, n, Place(0));
+    let mut low = key_of(f, a, n, Place(0));
     let mut m = 0;
     let mut i = 0;
     while i < STEPS {
-        let high = key(a, n, Place(i + 1));
+        let high = key_of(f, a, n, Place(i + 1));
         m += up(low, high);
         low = high;
         i += 1;

@@ -21,7 +21,7 @@ ghost use Rattle.navigate.specs.Places.{In, EdgeAt};
 ghost use Rattle.listing.specs.Written.{Written};
 
 // Where the Rust panics: both bounds closed and start above end, or equal and both excluded.
-fn bad_range(range: Range) -> bool
+pub fn bad_range(range: Range) -> bool
     ensures { λ r. ⌜ r ≡ badRange range ⌝ }
 {
     let start = range.start;

@@ -5,20 +5,20 @@ use mathlib.Core.Path.{_≡_, refl, ap, ap₂, _∙_}
 use mathlib.Core.List.{List}
 use lib.Dec.{lit<}
 use lib.ListN.{getD}
-use Rattle.model.specs.Layout.{headerSize, header, seenWord, markWord}
+use Rattle.model.specs.Layout.{Layout, headerSize, header, seenWord, markWord}
 use Rattle.model.specs.Mark.{Mark, unseen, seen, seenOf, markOf, markBy, storedMark}
 use Rattle.model.specs.State.{State}
-use Rattle.model.specs.Words.{headerOf}
-use Rattle.model.specs.Promise.{Holds}
-use Rattle.model.proofs.Held.{words-header}
+use Rattle.model.specs.Words.{headerOfBy}
+use Rattle.model.specs.Promise.{HoldsBy}
+use Rattle.model.proofs.Held.{words-header-by}
 
 pub mark-by : (m : Mark) → markBy (seenOf m) (markOf m) ≡ m
 mark-by unseen = refl
 mark-by (seen m) = refl
 
-module _ {w : List ℕ} {s : State} (o : Holds w s) where
-  pub header-is : (i : ℕ) → i < headerSize → header w i ≡ getD (headerOf s) i 0
-  header-is i l = ap (λ x. header x i) (o .words) ∙ words-header (o .sound) i l
+module _ {fm : Layout} {w : List ℕ} {s : State} (o : HoldsBy fm w s) where
+  pub header-is : (i : ℕ) → i < headerSize → header w i ≡ getD (headerOfBy fm s) i 0
+  header-is i l = ap (λ x. header x i) (o .words) ∙ words-header-by (o .sound) fm i l
 
   pub seen-is : header w seenWord ≡ seenOf (s .mark)
   seen-is = header-is seenWord (lit< tt)

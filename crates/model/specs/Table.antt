@@ -10,15 +10,15 @@ use Rattle.model.specs.declared.SearchBound.{SearchBound}
 use Rattle.model.specs.declared.SearchBound.the-variants.{Included, Excluded, AllIncluded, AllExcluded}
 use Rattle.model.specs.declared.Range.{Range}
 use Rattle.model.specs.Lists.{count, pad, insertAt}
-use Rattle.model.specs.Layout.{none, nodeWords, frame, arena}
-use Rattle.model.specs.Tree.{Pair, Item, Node, Tree, Frame, Ctx, top, under}
+use Rattle.model.specs.Layout.{none, Format1, nodeWordsBy, frame, arenaBy}
+use Rattle.model.specs.Tree.{Pair, Item, Tree, Frame, Ctx, top, under}
 use Rattle.model.specs.Range.{badRange, keysOf, Fork, parted, together, forkOf}
 use Rattle.model.specs.Mark.{seenOf, markOf, lower}
 use Rattle.model.specs.Insert.{Split, Side, left, right as rightSide, splitpoint}
 use Rattle.model.specs.Answer.{numbersOf}
 use Rattle.model.specs.State.{State, Order, formatted, order, list, restored, putCode, deleteCode, reserveCode}
-use Rattle.model.specs.Map.{range}
-use Rattle.model.specs.Words.{wordsOf}
+use Rattle.model.specs.Map.{range, rank, countOf, nth, picked}
+use Rattle.model.specs.Words.{wordsOfBy, wordsOf}
 use Rattle.model.specs.Promise.{pairWords}
 
 -- ---- what a case does, and what is compared
@@ -193,7 +193,35 @@ pub forks : forked (Included 3) (Included 9) ∷ forked (Included 7) (Included 7
 unfolding insertAt
 forks = refl
 
--- formatted for N = 2, all 86 words
-pub formatted-2 : wordsOf (formatted 2) ≡ (1 ∷ 2 ∷ 10 ∷ 0 ∷ 0 ∷ 0 ∷ 1 ∷ 1 ∷ 0 ∷ 0 ∷ []) ++ ((1 ∷ 0 ∷ none ∷ replicate 35 0) ++ (0 ∷ 0 ∷ none ∷ replicate 35 0))
-unfolding wordsOf arena nodeWords frame pad
+-- ---- ranks, counts and pairs at a rank among 10, 20 .. 110
+
+abbrev tenPairs : List Pair
+tenPairs = map (λ k. record { key = k; val = 1000 + k }) tens
+
+-- how many keys are smaller, the key itself present or not
+pub ranks : map (λ k. rank k tenPairs) (0 ∷ 10 ∷ 11 ∷ 55 ∷ 60 ∷ 61 ∷ 110 ∷ 111 ∷ []) ≡ 0 ∷ 0 ∷ 1 ∷ 5 ∷ 5 ∷ 6 ∷ 10 ∷ 11 ∷ []
+ranks = refl
+
+abbrev counted : SearchBound → SearchBound → ℕ
+counted a b = countOf (record { start = a; end = b }) tenPairs
+
+pub counts : counted (Included 20) (Included 60) ∷ counted (Excluded 20) (Included 60) ∷ counted (Included 20) (Excluded 60) ∷ counted (Excluded 20) (Excluded 60) ∷ counted (Included 21) (Excluded 59) ∷ counted AllIncluded (Included 30) ∷ counted (Excluded 100) AllIncluded ∷ counted AllIncluded AllIncluded ∷ counted (Excluded 20) (Excluded 21) ∷ counted (Included 20) (Excluded 20) ∷ []
+    ≡ 5 ∷ 4 ∷ 4 ∷ 3 ∷ 3 ∷ 3 ∷ 1 ∷ 11 ∷ 0 ∷ 0 ∷ []
+counts = refl
+
+-- number, key and value
+abbrev pickedWords : ℕ → List ℕ
+pickedWords i = let p = picked (nth i tenPairs) in (numbersOf (p .answer)) .number ∷ p .key ∷ (numbersOf (p .answer)) .word ∷ []
+
+pub picks : pickedWords 0 ∷ pickedWords 5 ∷ pickedWords 10 ∷ pickedWords 11 ∷ pickedWords 12 ∷ [] ≡ (1 ∷ 10 ∷ 1010 ∷ []) ∷ (1 ∷ 60 ∷ 1060 ∷ []) ∷ (1 ∷ 110 ∷ 1110 ∷ []) ∷ (2 ∷ 0 ∷ 0 ∷ []) ∷ (2 ∷ 0 ∷ 0 ∷ []) ∷ []
+picks = refl
+
+-- formatted for N = 2, all 88 words
+pub formatted-2 : wordsOf (formatted 2) ≡ (2 ∷ 2 ∷ 10 ∷ 0 ∷ 0 ∷ 0 ∷ 1 ∷ 1 ∷ 0 ∷ 0 ∷ []) ++ ((1 ∷ 0 ∷ none ∷ replicate 36 0) ++ (0 ∷ 0 ∷ none ∷ replicate 36 0))
+unfolding wordsOfBy arenaBy nodeWordsBy frame pad
 formatted-2 = refl
+
+-- in format 1, all 86 words
+pub formatted-2-old : wordsOfBy Format1 (formatted 2) ≡ (1 ∷ 2 ∷ 10 ∷ 0 ∷ 0 ∷ 0 ∷ 1 ∷ 1 ∷ 0 ∷ 0 ∷ []) ++ ((1 ∷ 0 ∷ none ∷ replicate 35 0) ++ (0 ∷ 0 ∷ none ∷ replicate 35 0))
+unfolding wordsOfBy arenaBy nodeWordsBy frame pad
+formatted-2-old = refl

@@ -2,7 +2,7 @@
 -- Assumes nothing.
 use Prim.Native.Nat.{ℕ, zero, suc, _+_, _*_, _-_, _≤_, _<_}
 use mathlib.Core.Path.{_≡_, refl, sym, ap, _∙_}
-use mathlib.Core.List.{List, [], _∷_, _++_, map, append-assoc, append-nil}
+use mathlib.Core.List.{List, [], _∷_, _++_, map, append-assoc}
 use native.Mathlib.Nat.{not-suc-le-zero}
 use native.Mathlib.Decide.{ℕ-discrete}
 use native.Mathlib.Omega.{arith}
@@ -10,11 +10,23 @@ use lib.Dec.{lit<}
 use lib.ListN.{length, getD, set, length-append, length-map, length-set, List·getD-append}
 use lib.Seq.{getD-set-same, getD-set-other, set-append-left, set-set}
 use Rattle.model.specs.Lists.{part, pad}
-use Rattle.model.specs.Layout.{headerSize, nodeSize, base, most, stateWord, lengthWord, parentWord, placeWord, frame, NodeVal, nodeWords, cells, arena, nth, blank, Small, Arena}
+use Rattle.model.specs.Layout.{headerSize, nodeSize, base, most, stateWord, lengthWord, parentWord, placeWord, totalWord, frame, NodeVal, nodeWordsBy, nodeWords, cells, arenaBy, nth, blank, Small, Arena}
 use Rattle.slices.specs.Words.{splice}
 use Rattle.slices.proofs.Laws.{part-right, part-left, splice-right, splice-left, word-part, set-splice}
-use Rattle.node.specs.Fields.{Fields, fieldsOf, fieldWords, Column, keyColumn, valColumn, edgeColumn, startOf, roomOf, column, withColumn, numbered, Fits, rows, row, Stored}
+use Rattle.node.specs.Fields.{Fields, fieldsOf, fieldWords, Column, keyColumn, valColumn, edgeColumn, startOf, roomOf, column, withColumn, numbered, totalled, Fits, rows, row, Stored}
 use Rattle.node.proofs.Pad.{pad-length, pad-word}
+
+set-end : (l : List ℕ) (x y n : ℕ) → length l ≡ n → set (l ++ (x ∷ [])) n y ≡ l ++ (y ∷ [])
+set-end [] x y zero e = refl
+set-end [] x y (suc n) e = absurd (omega arith)
+set-end (z ∷ l) x y zero e = absurd (omega arith)
+set-end (z ∷ l) x y (suc n) e = ap (λ (t : List ℕ). z ∷ t) (set-end l x y n (omega arith))
+
+get-end : (l : List ℕ) (x n : ℕ) → length l ≡ n → getD (l ++ (x ∷ [])) n 0 ≡ x
+get-end [] x zero e = refl
+get-end [] x (suc n) e = absurd (omega arith)
+get-end (z ∷ l) x zero e = absurd (omega arith)
+get-end (z ∷ l) x (suc n) e = get-end l x n (omega arith)
 
 -- ---- a column among a node's words
 
@@ -30,24 +42,24 @@ around : (c : Column) (f : Fields) → Fits f → Around c f
 unfolding fieldWords frame
 around keyColumn f s = record {
   before = f .state ∷ f .count ∷ f .parent ∷ f .place ∷ [];
-  after = pad most (f .vals) ++ pad (most + 1) (f .edges);
+  after = pad most (f .vals) ++ (pad (most + 1) (f .edges) ++ (f .total ∷ []));
   long = refl;
   now = refl;
   with = λ xs. refl;
 }
 around valColumn f s = record {
   before = f .state ∷ f .count ∷ f .parent ∷ f .place ∷ pad most (f .keys);
-  after = pad (most + 1) (f .edges);
+  after = pad (most + 1) (f .edges) ++ (f .total ∷ []);
   long = omega (arith, pad-length most (f .keys) (s keyColumn));
   now = refl;
   with = λ xs. refl;
 }
 around edgeColumn f s = record {
   before = f .state ∷ f .count ∷ f .parent ∷ f .place ∷ (pad most (f .keys) ++ pad most (f .vals));
-  after = [];
+  after = f .total ∷ [];
   long = omega (arith, length-append (pad most (f .keys)) (pad most (f .vals)), pad-length most (f .keys) (s keyColumn), pad-length most (f .vals) (s valColumn));
-  now = simp (append-assoc, append-nil);
-  with = λ xs. simp (append-assoc, append-nil);
+  now = simp append-assoc;
+  with = λ xs. simp append-assoc;
 }
 
 -- where a column ends, the node's words go on or end
@@ -84,6 +96,34 @@ numbered-fits : (st n up at : ℕ) (f : Fields) → Fits f → Fits (numbered st
 numbered-fits st n up at f s keyColumn = s keyColumn
 numbered-fits st n up at f s valColumn = s valColumn
 numbered-fits st n up at f s edgeColumn = s edgeColumn
+
+totalled-fits : (x : ℕ) (f : Fields) → Fits f → Fits (totalled x f)
+totalled-fits x f s keyColumn = s keyColumn
+totalled-fits x f s valColumn = s valColumn
+totalled-fits x f s edgeColumn = s edgeColumn
+
+-- what stands before the last word
+ahead : Fields → List ℕ
+ahead f = f .state ∷ f .count ∷ f .parent ∷ f .place ∷ (pad most (f .keys) ++ (pad most (f .vals) ++ pad (most + 1) (f .edges)))
+
+ahead-length : (f : Fields) → Fits f → length (ahead f) ≡ totalWord
+unfolding ahead
+ahead-length f s =
+    let k = pad-length most (f .keys) (s keyColumn) in
+    let v = pad-length most (f .vals) (s valColumn) in
+    let e = pad-length (most + 1) (f .edges) (s edgeColumn) in
+    simp length-append (omega arith)
+
+field-last : (f : Fields) → fieldWords f ≡ ahead f ++ (f .total ∷ [])
+unfolding fieldWords frame ahead
+field-last f = simp append-assoc
+
+last-set : (x : ℕ) (f : Fields) → Fits f → set (fieldWords f) totalWord x ≡ fieldWords (totalled x f)
+unfolding ahead
+last-set x f s = ap (λ (l : List ℕ). set l totalWord x) (field-last f) ∙ set-end (ahead f) (f .total) x totalWord (ahead-length f s) ∙ sym (field-last (totalled x f))
+
+pub last-get : (f : Fields) → Fits f → getD (fieldWords f) totalWord 0 ≡ f .total
+last-get f s = ap (λ (l : List ℕ). getD l totalWord 0) (field-last f) ∙ get-end (ahead f) (f .total) totalWord (ahead-length f s)
 
 -- ---- a node among the words of the arena
 
@@ -181,6 +221,11 @@ module _ {w h : List ℕ} {fs : List Fields} (a : Stored w h fs) where
     unfolding fieldWords frame
     place-set x = node-set n placeWord x _ o (lit< tt) (numbered-fits _ _ _ _ f (a .fits n o)) refl
 
+    -- the count of the pairs below is the last word
+    pub total-set : (x : ℕ) → Stored (set w (base n + totalWord) x) h (set fs n (totalled x f))
+    unfolding fieldWords frame
+    total-set x = node-set n totalWord x _ o (lit< tt) (totalled-fits x f (a .fits n o)) (last-set x f (a .fits n o))
+
   -- a part of a column, and words laid over it
   pub stored-part : (c : Column) (n k m : ℕ) → n < length fs → k + m ≤ roomOf c → part w (base n + (startOf c + k)) m ≡ part (pad (roomOf c) (column c (row fs n))) k m
   stored-part c n k m o i = node-part n (startOf c + k) m o (omega (arith, room-in c)) ∙ column-part c (row fs n) (a .fits n o) k m i
@@ -227,7 +272,7 @@ module _ {w h : List ℕ} {fs : List Fields} (a : Stored w h fs) (k : ℕ) (o : 
 -- ---- what nodes hold, as fields
 
 rows-cells : (ns : List NodeVal) → rows (map fieldsOf ns) ≡ cells ns
-unfolding nodeWords fieldWords
+unfolding nodeWordsBy fieldWords
 rows-cells [] = refl
 rows-cells (v ∷ ns) = ap (λ (t : List ℕ). nodeWords v ++ t) (rows-cells ns)
 
@@ -241,13 +286,13 @@ set-fields [] n v = refl
 set-fields (u ∷ ns) zero v = refl
 set-fields (u ∷ ns) (suc n) v = ap (λ (t : List Fields). fieldsOf u ∷ t) (set-fields ns n v)
 
-small-fits : (v : NodeVal) → Small v → Fits (fieldsOf v)
+pub small-fits : (v : NodeVal) → Small v → Fits (fieldsOf v)
 small-fits v s keyColumn = rw length-map (s .pairs-fit)
 small-fits v s valColumn = rw length-map (s .pairs-fit)
 small-fits v s edgeColumn = s .edges-fit
 
 pub stored : {w h : List ℕ} {ns : List NodeVal} → Arena w h ns → Stored w h (map fieldsOf ns)
-unfolding arena
+unfolding arenaBy
 stored {w} {h} {ns} a = record {
   header-long = a .header-long;
   fits = λ n o. rw row-fields (small-fits (nth ns n) (a .small n (rw length-map at o)));
@@ -255,7 +300,7 @@ stored {w} {h} {ns} a = record {
 }
 
 pub unstored : {w h : List ℕ} {ns : List NodeVal} → Stored w h (map fieldsOf ns) → Arena w h ns
-unfolding arena
+unfolding arenaBy
 unstored {w} {h} {ns} a = record {
   header-long = a .header-long;
   small = λ n o.

@@ -8,13 +8,13 @@ use borrow.Author.Tests.{le-leb, lt-leb, eq-eqb, ne-eqb}
 use lib.Dec.{lit<}
 use lib.ListN.{length, getD, length-map}
 use Rattle.model.specs.Lists.{part, pad}
-use Rattle.model.specs.Layout.{none, most, nodeSize, base, stateWord, lengthWord, parentWord, placeWord, keysWord, valuesWord, edgesWord, wordAt, keyOf, valOf, frame, NodeVal, nth, Arena}
+use Rattle.model.specs.Layout.{none, most, nodeSize, base, stateWord, lengthWord, parentWord, placeWord, keysWord, valuesWord, edgesWord, totalWord, wordAtBy, wordAt, keyOf, valOf, frame, NodeVal, nth, Arena}
 use Rattle.model.specs.Insert.{left, right, splitpoint}
 use Rattle.node.specs.declared.Ascent.the-variants.{Edge, Root}
 use Rattle.node.specs.Fields.{Fields, fieldsOf, fieldWords, keyColumn, valColumn, edgeColumn}
 use Rattle.node.specs.Reading.{Within, ascentOf, pairAt}
 use Rattle.node.proofs.Pad.{pad-all}
-use Rattle.node.proofs.Fields.{stored, stored-length, stored-part, stored-word, node-word, row-fields}
+use Rattle.node.proofs.Fields.{stored, stored-length, stored-part, stored-word, node-word, row-fields, last-get, small-fits}
 
 getD-map : {A : Type 0} (f : A → ℕ) (d : A) (l : List A) (i : ℕ) → getD (map f l) i (f d) ≡ f (getD l i d)
 getD-map f d [] i = refl
@@ -33,7 +33,7 @@ module _ {w h : List ℕ} {ns : List NodeVal} (a : Arena w h ns) where
     inside = rw length-map o
 
     alone : (k : ℕ) → k < nodeSize → wordAt w n k ≡ getD (fieldWords (fieldsOf (nth ns n))) k 0
-    unfolding wordAt
+    unfolding wordAtBy
     alone k l = node-word (stored a) n k inside l ∙ ap (λ (f : Fields). getD (fieldWords f) k 0) (row-fields ns n)
 
     pub state-is : wordAt w n stateWord ≡ nth ns n .state
@@ -52,22 +52,25 @@ module _ {w h : List ℕ} {ns : List NodeVal} (a : Arena w h ns) where
     unfolding fieldWords frame
     place-is = alone placeWord (lit< tt)
 
+    pub total-is : wordAt w n totalWord ≡ nth ns n .total
+    total-is = alone totalWord (lit< tt) ∙ last-get (fieldsOf (nth ns n)) (small-fits (nth ns n) (a .small n o))
+
     pub key-is : (i : ℕ) → i < length (nth ns n .pairs) → wordAt w n (keysWord + i) ≡ keyOf (pairAt (nth ns n .pairs) i)
-    unfolding wordAt
+    unfolding wordAtBy
     key-is i l =
         stored-word (stored a) keyColumn n i inside (rw (row-fields ns n, length-map) l)
         ∙ ap (λ (f : Fields). getD (f .keys) i 0) (row-fields ns n)
         ∙ getD-map keyOf (record { key = 0; val = 0 }) (nth ns n .pairs) i
 
     pub val-is : (i : ℕ) → i < length (nth ns n .pairs) → wordAt w n (valuesWord + i) ≡ valOf (pairAt (nth ns n .pairs) i)
-    unfolding wordAt
+    unfolding wordAtBy
     val-is i l =
         stored-word (stored a) valColumn n i inside (rw (row-fields ns n, length-map) l)
         ∙ ap (λ (f : Fields). getD (f .vals) i 0) (row-fields ns n)
         ∙ getD-map valOf (record { key = 0; val = 0 }) (nth ns n .pairs) i
 
     pub edge-is : (i : ℕ) → i < length (nth ns n .edges) → wordAt w n (edgesWord + i) ≡ getD (nth ns n .edges) i 0
-    unfolding wordAt
+    unfolding wordAtBy
     edge-is i l =
         stored-word (stored a) edgeColumn n i inside (rw (row-fields ns n) l)
         ∙ ap (λ (f : Fields). getD (f .edges) i 0) (row-fields ns n)

@@ -16,6 +16,7 @@ pub record Fields : Type 0 where
   pub keys : List ℕ
   pub vals : List ℕ
   pub edges : List ℕ
+  pub total : ℕ
 
 abbrev pub fieldsOf : NodeVal → Fields
 fieldsOf v =
@@ -27,10 +28,11 @@ fieldsOf v =
       keys = map keyOf (v .pairs);
       vals = map valOf (v .pairs);
       edges = v .edges;
+      total = v .total;
     }
 
 unfoldable pub fieldWords : Fields → List ℕ
-fieldWords f = frame (f .state) (f .count) (f .parent) (f .place) (pad most (f .keys)) (pad most (f .vals)) (pad (most + 1) (f .edges))
+fieldWords f = frame (f .state) (f .count) (f .parent) (f .place) (pad most (f .keys)) (pad most (f .vals)) (pad (most + 1) (f .edges)) (f .total ∷ [])
 
 -- ---- the columns: where each begins in a node, how many words it has room for, what is in it
 
@@ -53,13 +55,17 @@ column valColumn f = f .vals
 column edgeColumn f = f .edges
 
 abbrev pub withColumn : Column → List ℕ → Fields → Fields
-withColumn keyColumn xs f = record { state = f .state; count = f .count; parent = f .parent; place = f .place; keys = xs; vals = f .vals; edges = f .edges }
-withColumn valColumn xs f = record { state = f .state; count = f .count; parent = f .parent; place = f .place; keys = f .keys; vals = xs; edges = f .edges }
-withColumn edgeColumn xs f = record { state = f .state; count = f .count; parent = f .parent; place = f .place; keys = f .keys; vals = f .vals; edges = xs }
+withColumn keyColumn xs f = record { state = f .state; count = f .count; parent = f .parent; place = f .place; keys = xs; vals = f .vals; edges = f .edges; total = f .total }
+withColumn valColumn xs f = record { state = f .state; count = f .count; parent = f .parent; place = f .place; keys = f .keys; vals = xs; edges = f .edges; total = f .total }
+withColumn edgeColumn xs f = record { state = f .state; count = f .count; parent = f .parent; place = f .place; keys = f .keys; vals = f .vals; edges = xs; total = f .total }
 
 -- the same columns under other numbers
 abbrev pub numbered : ℕ → ℕ → ℕ → ℕ → Fields → Fields
-numbered st n up at f = record { state = st; count = n; parent = up; place = at; keys = f .keys; vals = f .vals; edges = f .edges }
+numbered st n up at f = record { state = st; count = n; parent = up; place = at; keys = f .keys; vals = f .vals; edges = f .edges; total = f .total }
+
+-- under another count of the pairs below
+abbrev pub totalled : ℕ → Fields → Fields
+totalled x f = record { state = f .state; count = f .count; parent = f .parent; place = f .place; keys = f .keys; vals = f .vals; edges = f .edges; total = x }
 
 -- fields that a node's words can hold
 abbrev pub Fits : Fields → Type 0

@@ -2,7 +2,7 @@
 ghost use mathlib.Core.Path.{_≡_};
 ghost use Prim.Native.Nat.{_+_, _<_, _≤_, max};
 ghost use Rattle.model.specs.Lists.{part};
-ghost use Rattle.model.specs.Layout.{base, most, nodeSize, stateWord, lengthWord, parentWord, placeWord, keysWord, valuesWord, edgesWord, wordAt};
+ghost use Rattle.model.specs.Layout.{base, most, nodeSize, stateWord, lengthWord, parentWord, placeWord, keysWord, valuesWord, edgesWord, totalWord, wordAt};
 ghost use Rattle.model.specs.Insert as model;
 ghost use Rattle.node.specs.Reading.{Within, ascentOf, risingOf};
 
@@ -12,7 +12,7 @@ pub const NONE: u64 = 4_294_967_295;
 // The words before the first node, and those of a node.
 pub const HEADER: usize = 10;
 
-pub const WORDS: usize = 38;
+pub const WORDS: usize = 39;
 
 // The places of the header's words.
 pub const FORMAT: usize = 0;
@@ -61,6 +61,8 @@ pub const KEYS: usize = 4;
 pub const VALS: usize = 15;
 
 pub const EDGES: usize = 26;
+
+pub const TOTAL: usize = 38;
 
 // The number of a node.
 pub struct NodeNo(pub usize);
@@ -112,6 +114,14 @@ pub fn len(a: &[u64], n: NodeNo) -> usize
     ensures { λ r. ⌜ r ≡ wordAt (now (a .entry)) (n .0) lengthWord ⌝ }
 {
     word(a, n, LEN) as usize
+}
+
+// How many pairs it and the nodes below it hold.
+pub fn total(a: &[u64], n: NodeNo) -> u64
+    requires { ⌜ Within (now a) (n .0) ⌝ }
+    ensures { λ r. ⌜ r ≡ wordAt (now (a .entry)) (n .0) totalWord ⌝ }
+{
+    word(a, n, TOTAL)
 }
 
 // The parent's number, or NONE; in a free node, the next free one or NONE.

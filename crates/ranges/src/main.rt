@@ -14,7 +14,7 @@ ghost use lib.ListN.{length};
 ghost use Rattle.ranges.specs.Bounds.{triedBound};
 
 // The words of fifteen nodes.
-const LONG: usize = 580;
+const LONG: usize = 595;
 
 const KEYS: [u64; 6] = [1, 5, 6, 70, 72, 142];
 
@@ -31,9 +31,9 @@ fn lay(a: &mut [u64], at: usize, t: &[u64])
 
 // Five pairs in a node, or fewer, the keys in even steps.
 fn pairs(a: &mut [u64], n: usize, len: usize, first: u64, step: u64)
-    requires { ⌜ (n < 15) × (length (now a) ≡ 580) × (len ≤ 5) × (first < 1000) × (step < 100) ⌝ }
+    requires { ⌜ (n < 15) × (length (now a) ≡ 595) × (len ≤ 5) × (first < 1000) × (step < 100) ⌝ }
 {
-    let b = 10 + 38 * n;
+    let b = 10 + 39 * n;
     let mut key = first;
     let mut i = 0;
     while i < len {
@@ -45,22 +45,24 @@ fn pairs(a: &mut [u64], n: usize, len: usize, first: u64, step: u64)
 }
 
 fn leaf(a: &mut [u64], n: usize, parent: u64, place: u64, first: u64, step: u64)
-    requires { ⌜ (n < 15) × (length (now a) ≡ 580) × (first < 1000) × (step < 100) ⌝ }
+    requires { ⌜ (n < 15) × (length (now a) ≡ 595) × (first < 1000) × (step < 100) ⌝ }
 {
-    lay(a, 10 + 38 * n, &[1, 5, parent, place]);
+    lay(a, 10 + 39 * n, &[1, 5, parent, place]);
+    lay(a, 48 + 39 * n, &[5]);
     pairs(a, n, 5, first, step);
 }
 
 // An internal node below the root, with six leaves from node `child` on.
 fn inner(a: &mut [u64], n: usize, place: u64, first: u64, child: usize)
-    requires { ⌜ (n < 15) × (length (now a) ≡ 580) × (first < 100) × (child < 10) ⌝ }
+    requires { ⌜ (n < 15) × (length (now a) ≡ 595) × (first < 100) × (child < 10) ⌝ }
 {
-    lay(a, 10 + 38 * n, &[2, 5, 0, place]);
+    lay(a, 10 + 39 * n, &[2, 5, 0, place]);
+    lay(a, 48 + 39 * n, &[35]);
     pairs(a, n, 5, first + 10, 12);
     let mut key = first;
     let mut j = 0;
     while j < 6 {
-        lay(a, 36 + 38 * n + j, &[(child + j) as u64]);
+        lay(a, 36 + 39 * n + j, &[(child + j) as u64]);
         leaf(a, child + j, n as u64, j as u64, key, 2);
         key += 12;
         j += 1;
@@ -69,19 +71,20 @@ fn inner(a: &mut [u64], n: usize, place: u64, first: u64, child: usize)
 
 // The keys 2, 4, .. 142 at three levels.
 fn three_levels(a: &mut [u64])
-    requires { ⌜ length (now a) ≡ 580 ⌝ }
+    requires { ⌜ length (now a) ≡ 595 ⌝ }
 {
     lay(a, 4, &[2, 71, NONE, 0, 1, 142]);
     lay(a, 10, &[2, 1, NONE, 0]);
     pairs(a, 0, 1, 72, 0);
     lay(a, 36, &[1, 2]);
+    lay(a, 48, &[71]);
     inner(a, 1, 0, 2, 3);
     inner(a, 2, 1, 74, 9);
 }
 
 // The keys 3 to 7 in the root.
 fn one_leaf(a: &mut [u64])
-    requires { ⌜ length (now a) ≡ 580 ⌝ }
+    requires { ⌜ length (now a) ≡ 595 ⌝ }
 {
     lay(a, 5, &[5]);
     lay(a, 8, &[1, 7]);

@@ -38,6 +38,7 @@ use Rattle.shrinking.proofs.Pairs.{pair-ready, pair-is, replace-long, replace-s
 use Rattle.standing.specs.Heads.{Rest, restOf, headWords, topOf, HoleIn, ClosedIn}
 use Rattle.fix.proofs.Holes.{closed-in}
 use Rattle.remove.specs.Removals.{grownTo, LeafKv, without, InnerKv, removed}
+use Rattle.totals.proofs.Siblings.{replace-told}
 use Rattle.remove.proofs.States.{hole-of, holds-of, removed-sound, removed-pairs}
 
 -- ---- the pair before the leaf edge z, which p follows
@@ -161,6 +162,7 @@ module _ {w : List ℕ} {t : State} (o : Holds w t) {d : Handle} (y : KvAt t d) 
           arena = call′ hd (H .nodes) ready (H .arena) .1;
           stand = replace-step (y .ctx) (y .no) (y .left) (y .hole) (y .item) (y .right) (t .free) (H .stand) (pairOf kv);
           many = replace-long (y .ctx) (y .no) (y .left) (y .hole) (y .item) (y .right) (t .free) (H .stand) (pairOf kv) ∙ H .many;
+          told = replace-told (H .nodes) (y .no) (length (y .left)) (pairOf kv) (H .told);
         })
 
 -- ---- the whole removal from an internal node

@@ -26,6 +26,8 @@ use Rattle.model.proofs.Removal.{Leaves, remove-leaves}
 use Rattle.standing.specs.Standing.{rootOf, Closed}
 use Rattle.standing.proofs.Scenes.{closed-of, enter, closed-words}
 use Rattle.standing.specs.Heads.{Rest, restOf, headWords, topOf, HoleIn, ClosedIn}
+use Rattle.standing.proofs.States.{laid-totals}
+use Rattle.model.proofs.Held.{sound-laid}
 use Rattle.standing.proofs.Heads.{plug-root, plug-top}
 use Rattle.remove.specs.Removals.{grownTo}
 
@@ -50,11 +52,12 @@ module _ {w : List ℕ} {s : State} (o : Holds w s) {h : ℕ} (c : Ctx h) (t : T
         arena = subst (λ (x : List ℕ). Arena x (headWords (restOf s) (rootOf c (rootNo h t)) (pred (topOf c)) (s .free)) (nodesIn s)) (sym (o .words)) (subst (λ (x : List ℕ). Arena (wordsOf s) x (nodesIn s)) head-is (k .arena));
         stand = enter c t (s .free) (subst (λ (x : Whole). Closed (nodesIn s) x (s .free)) (sym e) (closed-of o));
         many = k .many;
+        told = laid-totals (sound-laid (o .sound));
       }
 
 -- and back
 pub holds-of : {w : List ℕ} (s : State) → Sound s → ClosedIn w (restOf s) (record { whole = s .whole; free = s .free }) → Holds w s
-holds-of s o H = record { sound = o; words = closed-words s o (H .arena) refl (H .many) (H .stand) }
+holds-of s o H = record { sound = o; words = closed-words s o (H .arena) refl (H .many) (H .stand) (H .told) }
 
 pub same-long : {w w′ : List ℕ} {s t : State} → Holds w s → Holds w′ t → t .size ≡ s .size → length w′ ≡ length w
 same-long {s = s} {t = t} o q e = ap length (q .words) ∙ (words-long (q .sound) ∙ ap base e) ∙ sym (ap length (o .words) ∙ words-long (o .sound))

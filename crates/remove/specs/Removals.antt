@@ -1,5 +1,12 @@
 -- A pair's place in a leaf or above, and the state without that pair.
 -- Assumes nothing.
+use Rattle.node.specs.declared.NodeNo.{NodeNo}
+use Rattle.node.specs.declared.Place.{Place}
+use Rattle.node.specs.declared.Kv.{Kv}
+use Rattle.node.specs.Reading.{pairOf}
+use Rattle.model.specs.Promise.{Holds}
+use Rattle.standing.specs.Heads.{restOf}
+use Rattle.standing.specs.Heads.{HoleIn}
 use Prim.Native.Nat.{ℕ, zero, suc, _≤_}
 use mathlib.Core.Path.{_≡_}
 use mathlib.Core.List.{List, _∷_}
@@ -37,3 +44,7 @@ pub record InnerKv (s : State) (d : Handle) : Type 0 where
 
 abbrev pub removed : {d : Handle} (s : State) → KvAt s d → State
 removed {d} s y = grownTo s (removeAt (d .height) (y .ctx) (y .no) (y .left) (y .hole) (y .item) (y .right) (s .free))
+
+-- what taking a pair out of its leaf leaves: true counts
+abbrev pub TakeCall : List ℕ → List ℕ → NodeNo → Place → Kv → Type 0
+TakeCall w w′ n i kv = (s : State) → Holds w s → (y : LeafKv s (record { node = n; height = 0; at = i })) → (pairOf kv ≡ y .item .pair) × HoleIn w′ (restOf s) (y .ctx) (fill (y .no) (y .left) tt (y .right)) (s .free)

@@ -14,6 +14,7 @@ use node::len;
 use search::Handle;
 use search::SearchResult;
 use search::search_tree;
+use totals::settle;
 ghost use mathlib.Core.Bool.{true};
 ghost use mathlib.Core.Path.{_≡_};
 ghost use Prim.Native.Nat.{_+_, _≤_, _<_};
@@ -23,7 +24,17 @@ ghost use Rattle.model.specs.WellFormed.{WellFormed};
 ghost use Rattle.model.specs.Promise.{Holds, Does};
 ghost use Rattle.node.specs.Reading.{Within, pairOf};
 ghost use Rattle.navigate.specs.Places.{In, KvAt};
-ghost use Rattle.remove.specs.Removals.{LeafKv, without, InnerKv, removed};
+ghost use Rattle.remove.specs.Removals.{TakeCall, LeafKv, without, InnerKv, removed};
+
+// Takes a pair out of its leaf, and sets counts right.
+fn take_pair(a: &mut [u64], n: NodeNo, at: Place) -> Kv
+    requires { ⌜ In (now a) (λ s. LeafKv s (record { node = n; height = 0; at = at })) ⌝ }
+    ensures { λ r. ⌜ TakeCall (now (a .entry)) (now (a .exit)) n at r ⌝ }
+{
+    let old = leaf::remove(a, n, at);
+    settle(a, n);
+    old
+}
 
 // Takes a pair out of its leaf. The leaf and its ancestors are repaired, and an internal root left empty is taken off.
 pub fn remove_leaf_kv(a: &mut [u64], kv: Handle) -> Kv
@@ -32,7 +43,7 @@ pub fn remove_leaf_kv(a: &mut [u64], kv: Handle) -> Kv
 {
     let node = kv.node;
     let at = kv.at;
-    let old = leaf::remove(a, node, at);
+    let old = take_pair(a, node, at);
     let left = a[PAIRS] - 1;
     a[PAIRS] = left;
     if fix_node_and_affected_ancestors(a, node) {

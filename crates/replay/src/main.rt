@@ -22,7 +22,7 @@ ghost use lib.ListN.{length};
 ghost use Rattle.replay.specs.Records.{ListingMixed, Replays, readBound, boundKey, boundKind, readRange};
 
 // The words of 150 nodes.
-const LONG: usize = 5710;
+const LONG: usize = 5860;
 
 // The bytes of a record.
 const RECORD: usize = 24;
@@ -135,7 +135,7 @@ fn fork(a: &[u64], range: Range) {
 
 // The mix so far and the header.
 fn tell(mix: u64, a: &[u64])
-    requires { ⌜ length (now a) ≡ 5710 ⌝ }
+    requires { ⌜ length (now a) ≡ 5860 ⌝ }
 {
     say(mix);
     say_words(&a[0..9]);
@@ -144,7 +144,7 @@ fn tell(mix: u64, a: &[u64])
 
 // One record; the mix after it.
 fn run(a: &mut [u64], code: u64, k: u64, v: u64, mix: u64) -> u64
-    requires { ⌜ length (now a) ≡ 5710 ⌝ }
+    requires { ⌜ length (now a) ≡ 5860 ⌝ }
     ensures { λ r. ⌜ Replays code k v mix (now (a .entry)) (now (a .exit)) r ⌝ }
 {
     if code == FORMAT {
@@ -169,7 +169,7 @@ fn run(a: &mut [u64], code: u64, k: u64, v: u64, mix: u64) -> u64
 
 // All records to the end of the input.
 fn run_all(a: &mut [u64])
-    requires { ⌜ length (now a) ≡ 5710 ⌝ }
+    requires { ⌜ length (now a) ≡ 5860 ⌝ }
 {
     let mut b = [0u8; RECORD];
     let mut mix = 0;

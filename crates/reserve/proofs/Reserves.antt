@@ -7,10 +7,10 @@ use mathlib.Core.List.{List}
 use lib.Dec.{leb}
 use lib.ListN.{set}
 use Rattle.model.specs.declared.Answer.the-variants.{Done, Spent}
-use Rattle.model.specs.Layout.{header, seenWord, markWord, arena}
+use Rattle.model.specs.Layout.{header, seenWord, markWord, arenaBy}
 use Rattle.model.specs.Mark.{seen, reached, markBy, storedMark}
 use Rattle.model.specs.State.{State, Reply, reserve}
-use Rattle.model.specs.Words.{wordsOf}
+use Rattle.model.specs.Words.{wordsOfBy, wordsOf}
 use Rattle.model.specs.Promise.{Holds, Does}
 use Rattle.model.proofs.Header.{stored-mark}
 use Rattle.model.proofs.Ends.{stays, does-as}
@@ -28,7 +28,7 @@ module _ (k : ℕ) (w : List ℕ) where
 
 -- the state with another mark, in words
 marked-words : (s : State) (k : ℕ) → wordsOf (record { size = s .size; whole = s .whole; free = s .free; mark = seen k }) ≡ set (set (wordsOf s) seenWord 1) markWord k
-unfolding wordsOf arena
+unfolding wordsOfBy arenaBy
 marked-words s k = refl
 
 module _ {w : List ℕ} {s : State} (o : Holds w s) (k : ℕ) where

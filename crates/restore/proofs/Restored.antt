@@ -10,10 +10,10 @@ use mathlib.Core.List.{List, _++_, append-nil}
 use lib.Dec.{lit<, ltb}
 use lib.ListN.{length, take, drop, getD, set, drop-of-length-le}
 use lib.Seq.{drop-cons, set-at, append-snoc, take-suc, take-all, length-take-le}
-use Rattle.model.specs.Layout.{headerSize, header, seenWord, markWord, arena}
+use Rattle.model.specs.Layout.{headerSize, header, seenWord, markWord, arenaBy, arena}
 use Rattle.model.specs.Mark.{Mark, unseen, seen, higher, lower, seenOf, markOf, markBy, storedMark}
 use Rattle.model.specs.State.{State, restored}
-use Rattle.model.specs.Words.{wordsOf}
+use Rattle.model.specs.Words.{wordsOfBy, wordsOf}
 use Rattle.model.specs.WellFormed.{WellFormed}
 use Rattle.model.specs.Promise.{Holds, Restored, Restore}
 use Rattle.model.specs.declared.Answer.{Answer}
@@ -51,7 +51,7 @@ mark-higher (seen a) (seen b) = refl
 
 -- a restored state's words are the image's but for those two
 pub restored-words : (s i : State) → wordsOf (restored s i) ≡ set (set (wordsOf i) seenWord (max (seenOf (s .mark)) (seenOf (i .mark)))) markWord (max (markOf (s .mark)) (markOf (i .mark)))
-unfolding wordsOf arena
+unfolding wordsOfBy arenaBy
 restored-words s i = rw (← seen-higher (s .mark) (i .mark), ← mark-higher (s .mark) (i .mark)) refl
 
 left-words : {w i : List ℕ} {s t : State} → Holds w s → Holds i t → set (set i seenWord (max (getD w seenWord 0) (getD i seenWord 0))) markWord (max (getD w markWord 0) (getD i markWord 0)) ≡ wordsOf (restored s t)

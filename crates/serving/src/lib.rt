@@ -12,7 +12,7 @@ ghost use lib.ListN.{length};
 ghost use Rattle.serving.specs.Serving.{Serves, goesOn};
 
 // The words of 64 nodes.
-const LONG: usize = 2442;
+const LONG: usize = 2506;
 
 // The bytes of an order.
 const ORDER: usize = 24;
@@ -72,7 +72,7 @@ fn run_all(a: &mut [u64]) {
 
 // Pairs, free nodes, seen and mark.
 fn last_line(a: &[u64])
-    requires { ⌜ length (now a) ≡ 2442 ⌝ }
+    requires { ⌜ length (now a) ≡ 2506 ⌝ }
 {
     say(a[5]);
     say(a[7]);

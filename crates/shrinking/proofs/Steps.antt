@@ -64,7 +64,7 @@ module _ (ns : List NodeVal) (L : Links ns) (n e : ℕ) (r : List (Item ℕ)) (o
   pub branching : (h : ℕ) → bodyOf (nth ns n) ≡ content (suc h) e r → Branches ns n
   branching h b = record { state-is = body-parts (nth ns n) _ b .0; edges-are = content-edges h b; lead = edges-lead }
 
-  shaped : (h : ℕ) → bodyOf (nth ns n) ≡ content h e r → Shaped ns n
+  pub shaped : (h : ℕ) → bodyOf (nth ns n) ≡ content h e r → Shaped ns n
   unfolding edgesWith
   shaped zero b = let v = body-parts (nth ns n) _ b in record { node = o; edges-are = rw (v .0, v .2) refl; lead = edges-lead }
   shaped (suc h) b = record { node = o; edges-are = content-edges h b ∙ rw (body-parts (nth ns n) _ b .0) refl; lead = edges-lead }
@@ -267,7 +267,7 @@ module _ {h : ℕ} (c : Ctx (suc (suc h))) (n : ℕ) (l : List (Item (Tree (suc 
     abbrev pub after-merge : List NodeVal
     after-merge = mergeNodes free ns n (length l) (w .left .no) (w .right .no)
 
-    K : Kept ns after-merge (n ∷ a .no ∷ b .no ∷ free) (b .no ∷ free)
+    pub K : Kept ns after-merge (n ∷ a .no ∷ b .no ∷ free) (b .no ∷ free)
     K = merge-kept ns (T .links) n i (a .no) (b .no) siblings free (frees hd ef en) (apart hd ef en)
 
     inner : (t : Tree h) → ((q : ℕ) → has q h t + times q (n ∷ a .no ∷ b .no ∷ free) ≤ 1) → Stands ns h t → Stands after-merge h t
@@ -323,7 +323,7 @@ module _ {h : ℕ} (c : Ctx (suc (suc h))) (n : ℕ) (l : List (Item (Tree (suc 
     abbrev pub halves : Twin (Tree (suc h))
     halves = cut m (w .right .no) (w .pair) (join w)
 
-    Kv : Kept ns after-move (n ∷ a .no ∷ b .no ∷ []) []
+    pub Kv : Kept ns after-move (n ∷ a .no ∷ b .no ∷ []) []
     Kv = move-kept ns (T .links) n i (a .no) (b .no) siblings m
 
     abbrev up : Item ℕ
@@ -411,7 +411,7 @@ module _ {h : ℕ} (t : Tree (suc (suc h))) (free : List ℕ) {ns : List NodeVal
         frees = pop-frees hd ns (H .links) (H .few) (t .first .no) (rw er no-in) (rw er only) (rw er (link-parent (H .root))) free frees-here (rw er two-apart);
       }
 
-  Kp : Kept ns (popNodes hd free ns) (t .no ∷ free) (t .no ∷ t .first .no ∷ free)
+  pub Kp : Kept ns (popNodes hd free ns) (t .no ∷ free) (t .no ∷ t .first .no ∷ free)
   Kp = rw er at (pop-kept hd ns (H .links) (H .few) (t .first .no) (rw er no-in) (rw er only) (rw er (link-parent (H .root))) free frees-here (rw er two-apart))
 
   pub pop-long : length (popNodes hd free ns) ≡ length ns

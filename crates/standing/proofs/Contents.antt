@@ -42,5 +42,5 @@ content-is zero parent i t = rw (num-pairs (rootNo 0) (t .rest))
 content-is (suc h) parent i t = rw (num-pairs (rootNo (suc h)) (t .rest), num-edges (rootNo (suc h)) (t .rest))
 
 -- put together
-pub value-of : (v u : NodeVal) → bodyOf v ≡ bodyOf u → linkOf v ≡ linkOf u → v ≡ u
-value-of v u b l = λ i. record { state = b i .state; parent = l i .parent; place = l i .place; pairs = b i .pairs; edges = b i .edges }
+pub value-of : (v u : NodeVal) → bodyOf v ≡ bodyOf u → linkOf v ≡ linkOf u → v .total ≡ u .total → v ≡ u
+value-of v u b l t = λ i. record { state = b i .state; parent = l i .parent; place = l i .place; pairs = b i .pairs; edges = b i .edges; total = t i }

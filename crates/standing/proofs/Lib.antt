@@ -1,3 +1,5 @@
+pub mod Totals
+pub mod States
 pub mod Leads
 pub mod Relinks
 pub mod Changes

@@ -2,29 +2,30 @@
 -- Assumes nothing.
 use mathlib.Core.Path.{_≡_, refl, sym, ap, _∙_, subst}
 use mathlib.Core.Bool.{Bool, true, false, cond}
-use mathlib.Core.List.{List, [], _∷_, _++_, map}
+use mathlib.Core.List.{List, [], _∷_}
 use Prim.Native.Nat.{ℕ, zero, suc, _+_, _≤_, _<_}
 use native.Mathlib.Nat.{not-suc-le-zero, le-of-suc-le-suc, add-zero}
 use native.Mathlib.Decide.{decLt}
 use native.Mathlib.Omega.{arith}
 use lib.Dec.{ltb}
-use lib.ListN.{length, getD, List·getD-eq-default}
+use lib.ListN.{length, getD}
 use borrow.Author.Tests.{ltb-true, lt-ltb}
 use Rattle.model.specs.Lists.{All, one, times}
-use Rattle.model.specs.Layout.{none, NodeVal, nth, blank, Arena}
-use Rattle.model.specs.Tree.{Item, Node, Tree, Frame, Ctx, top, under, Whole, plug, fill, hasIn, has, hasCtx, hasWhole}
+use Rattle.model.specs.Layout.{none, NodeVal, nth, Arena}
+use Rattle.model.specs.Tree.{Item, Tree, Frame, Ctx, top, under, plug, fill, hasIn, has}
 use Rattle.model.specs.State.{State}
-use Rattle.model.specs.Words.{kind, rootNo, links, nodeVal, Block, blocksOf, blocks, chainBlocks, blocksIn, nodesIn, headerOf, wordsOf}
+use Rattle.model.specs.Words.{kind, rootNo, links, nodeVal, Block, blocksOf, blocks, chainBlocks, nodesIn, headerOf, wordsOf}
 use Rattle.model.specs.Sound.{AllIn, Sound, RootFull}
 use Rattle.model.specs.Promise.{Holds}
 use Rattle.model.proofs.Lists.{all-append, all-left, all-right}
 use Rattle.model.proofs.Plug.{has-fill}
 use Rattle.model.proofs.Sizes.{fill-parts, parts-fill}
 use Rattle.model.proofs.Held.{Written, Held, Laid, laid-held, laid-node, sound-laid, held-words}
-use Rattle.store.specs.Links.{Body, Link, bodyOf, linkOf}
+use Rattle.store.specs.Links.{bodyOf, linkOf}
 use Rattle.standing.specs.Kept.{Child, Links}
-use Rattle.standing.specs.Standing.{numbered, content, contentOf, Stands, Way, rootOf, atRoot, Hole, Closed}
-use Rattle.standing.proofs.Leads.{one-self}
+use Rattle.standing.specs.Totals.{Totals}
+use Rattle.standing.proofs.Totals.{past, stands-total}
+use Rattle.standing.specs.Standing.{Stands, atRoot, Hole, Closed}
 use Rattle.standing.proofs.Contents.{content-fill, content-is, value-of}
 
 -- ---- in and out of a node
@@ -76,10 +77,6 @@ enter top t free H = H
 enter (under f c) t free H = zoom-in f c t free (enter c (fill (f .no) (f .left) t (f .right)) free H)
 
 -- ---- blocks and bodies
-
--- past the last node
-past : (ns : List NodeVal) (q : ℕ) → length ns ≤ q → nth ns q ≡ blank
-past ns q l = List·getD-eq-default ns blank l
 
 module _ (ns : List NodeVal) where
   all-items : (h n i : ℕ) → ((i : ℕ) (t : Tree h) → All (Written ns) (blocks h n i t) → Stands ns h t) → (r : List (Item (Tree h))) → All (Written ns) (blocksOf (blocks h n) i r) → AllIn (Stands ns h) r
@@ -209,7 +206,7 @@ closed-of o = laid-closed (sound-laid (o .sound))
 
 -- ---- and back
 
-module _ (ns : List NodeVal) (L : Links ns) where
+module _ (ns : List NodeVal) (L : Links ns) (T : Totals ns) where
   -- the items of a node n hang from the place i on
   items-written : (h n i : ℕ) → ((i : ℕ) (t : Tree (suc h)) → Stands ns (suc h) t → linkOf (nth ns (t .no)) ≡ record { parent = n; place = i } → All (Written ns) (blocks (suc h) n i t))
       → (r : List (Item (Tree (suc h)))) → AllIn (Stands ns (suc h)) r → ((j : ℕ) → j < length (links (rootNo (suc h)) r) → Child ns n (i + j) (getD (links (rootNo (suc h)) r) j 0)) → All (Written ns) (blocksOf (blocks (suc h) n) i r)
@@ -220,13 +217,13 @@ module _ (ns : List NodeVal) (L : Links ns) where
       (items-written h n (suc i) f r (a .1) (λ j l. subst (λ (p : ℕ). Child ns n p (getD (links (rootNo (suc h)) r) j 0)) (let z : i + suc j ≡ suc i + j = omega arith in z) (k (suc j) (omega arith))))
 
   pub written-of : (h p i : ℕ) (t : Tree (suc h)) → Stands ns (suc h) t → linkOf (nth ns (t .no)) ≡ record { parent = p; place = i } → All (Written ns) (blocks (suc h) p i t)
-  written-of zero p i t s e = (value-of (nth ns (t .no)) (nodeVal 0 p i t) (s .0 ∙ sym (content-is 0 p i t)) e, gaps (t .no) 1 (t .rest))
+  written-of zero p i t s e = (value-of (nth ns (t .no)) (nodeVal 0 p i t) (s .0 ∙ sym (content-is 0 p i t)) e (stands-total ns T 0 t s), gaps (t .no) 1 (t .rest))
     where
       gaps : (n i : ℕ) (r : List (Item (Tree 0))) → All (Written ns) (blocksOf (blocks 0 n) i r)
       gaps n i [] = tt
       gaps n i (x ∷ r) = gaps n (suc i) r
   written-of (suc h) p i t s e =
-      let v = value-of (nth ns (t .no)) (nodeVal (suc h) p i t) (s .0 ∙ sym (content-is (suc h) p i t)) e in
+      let v = value-of (nth ns (t .no)) (nodeVal (suc h) p i t) (s .0 ∙ sym (content-is (suc h) p i t)) e (stands-total ns T (suc h) t s) in
       let k : (j : ℕ) → j < length (t .first .no ∷ links (rootNo (suc h)) (t .rest)) → Child ns (t .no) j (getD (t .first .no ∷ links (rootNo (suc h)) (t .rest)) j 0) = λ j l. rw v at (L (t .no) j (rw v l)) in (
         v,
         all-append (Written ns) (blocks (suc h) (t .no) 0 (t .first)) (blocksOf (blocks (suc h) (t .no)) 1 (t .rest)) (written-of h (t .no) 0 (t .first) (s .1) (k 0 (omega arith) .link))
@@ -234,9 +231,9 @@ module _ (ns : List NodeVal) (L : Links ns) where
       )
 
 -- nodes in which the tree of a sound state stands, with its header, are its words
-pub closed-words : {w k : List ℕ} {ns : List NodeVal} (s : State) → Sound s → Arena w k ns → k ≡ headerOf s → length ns ≡ s .size → Closed ns (s .whole) (s .free) → w ≡ wordsOf s
-closed-words {ns = ns} s o a e n c = held-words o (record { arena = a; head = e; many = n; nodes = all-append (Written ns) (blocks (s .whole .height) none 0 (s .whole .root)) (chainBlocks (s .free)) (tree (s .whole .height) (s .whole .root) (o .full) (c .tree) (c .root)) (c .chain) })
+pub closed-words : {w k : List ℕ} {ns : List NodeVal} (s : State) → Sound s → Arena w k ns → k ≡ headerOf s → length ns ≡ s .size → Closed ns (s .whole) (s .free) → Totals ns → w ≡ wordsOf s
+closed-words {ns = ns} s o a e n c T = held-words o (record { arena = a; head = e; many = n; nodes = all-append (Written ns) (blocks (s .whole .height) none 0 (s .whole .root)) (chainBlocks (s .free)) (tree (s .whole .height) (s .whole .root) (o .full) (c .tree) (c .root)) (c .chain) })
   where
     tree : (h : ℕ) (t : Tree h) → RootFull h t → Stands ns h t → linkOf (nth ns (rootNo h t)) ≡ atRoot → All (Written ns) (blocks h none 0 t)
     tree zero t f s r = absurd f
-    tree (suc h) t f s r = written-of ns (c .links) h none 0 t s r
+    tree (suc h) t f s r = written-of ns (c .links) T h none 0 t s r

@@ -11,6 +11,7 @@ use Rattle.model.specs.Mark.{seenOf, markOf}
 use Rattle.model.specs.State.{State, list}
 use Rattle.model.specs.Words.{rootNo, firstOr}
 use Rattle.standing.specs.Standing.{rootOf, Hole}
+use Rattle.standing.specs.Totals.{Totals}
 
 -- the header words that a change of the tree leaves alone
 pub record Rest : Type 0 where
@@ -30,12 +31,13 @@ abbrev pub topOf : {h : ℕ} → Ctx h → ℕ
 topOf (top {h = h}) = h
 topOf (under f c) = topOf c
 
--- the words are a tree with a hole that t fills
+-- the words are a tree with a hole that t fills, with true counts
 pub record HoleIn (w : List ℕ) (g : Rest) {h : ℕ} (c : Ctx h) (t : Tree h) (free : List ℕ) : Type 0 where
   pub nodes : List NodeVal
   pub arena : Arena w (headWords g (rootOf c (rootNo h t)) (pred (topOf c)) free) nodes
   pub stand : Hole nodes c t free
   pub many : length nodes ≡ g .size
+  pub told : Totals nodes
 
 -- they are a whole tree
 abbrev pub ClosedIn : List ℕ → Rest → Grown → Type 0

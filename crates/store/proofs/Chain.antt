@@ -11,14 +11,14 @@ use lib.ListN.{length, getD, set, length-map, length-set}
 use lib.Seq.{getD-set-other, set-getD}
 use Rattle.model.specs.Lists.{All}
 use Rattle.model.specs.Layout as layout
-use Rattle.model.specs.Layout.{none, header, headerSize, base, stateWord, parentWord, placeWord, firstFreeWord, freeWord, wordAt, NodeVal, nth, blank, Arena}
+use Rattle.model.specs.Layout.{none, header, headerSize, base, stateWord, parentWord, placeWord, totalWord, firstFreeWord, freeWord, wordAt, NodeVal, nth, blank, Arena}
 use Rattle.model.specs.Nodes.{taken, untaken, returned}
 use Rattle.model.specs.Words.{freeVal, firstOr, chainBlocks}
 use Rattle.model.proofs.Held.{Written}
 use Rattle.model.proofs.Frees.{returned-length}
-use Rattle.node.specs.Fields.{Fields, fieldsOf, numbered}
+use Rattle.node.specs.Fields.{Fields, fieldsOf, numbered, totalled}
 use Rattle.node.specs.Reading.{Within, Has}
-use Rattle.node.proofs.Fields.{stored, unstored, head-word, head-set, state-set, parent-set, place-set, first, again, done}
+use Rattle.node.proofs.Fields.{stored, unstored, head-word, head-set, state-set, parent-set, place-set, total-set, first, again, done}
 use Rattle.node.proofs.Reading.{within, arena-length, parent-is}
 use Rattle.store.specs.Links.{fresh, linked, link, firstFree, freeNodes, takeHead, takeNode, lastBelow, returnHead, returnNode, TakeReady, Takeable, ReturnReady, Returnable}
 use Rattle.store.proofs.Returns.{before-none, before-some}
@@ -46,11 +46,12 @@ module _ {w h : List ℕ} {ns : List NodeVal} (a : Arena w h ns) where
       let s = first ns n o (λ (f : Fields). numbered st (f .count) (f .parent) (f .place) f) (state-set (stored a) n (inside n o) st) in
       done ns n o _ (fresh st) (rw e refl) (again ns n o (λ (f : Fields). numbered (f .state) (f .count) none (f .place) f) _ (parent-set s n (rw length-set (inside n o)) none))
 
-  pub free-put : (n next : ℕ) → n < length ns → nth ns n .pairs ≡ [] → nth ns n .edges ≡ [] → Arena (set (set (set w (base n + stateWord) layout.free) (base n + parentWord) next) (base n + placeWord) 0) h (set ns n (freeVal next))
+  pub free-put : (n next : ℕ) → n < length ns → nth ns n .pairs ≡ [] → nth ns n .edges ≡ [] → Arena (set (set (set (set w (base n + stateWord) layout.free) (base n + parentWord) next) (base n + placeWord) 0) (base n + totalWord) 0) h (set ns n (freeVal next))
   free-put n next o p q =
       let s = first ns n o (λ (f : Fields). numbered layout.free (f .count) (f .parent) (f .place) f) (state-set (stored a) n (inside n o) layout.free) in
       let t = again ns n o (λ (f : Fields). numbered (f .state) (f .count) next (f .place) f) _ (parent-set s n (rw length-set (inside n o)) next) in
-      done ns n o _ (freeVal next) (rw (p, q) refl) (again ns n o (λ (f : Fields). numbered (f .state) (f .count) (f .parent) 0 f) _ (place-set t n (rw length-set (inside n o)) 0))
+      let u = again ns n o (λ (f : Fields). numbered (f .state) (f .count) (f .parent) 0 f) _ (place-set t n (rw length-set (inside n o)) 0) in
+      done ns n o _ (freeVal next) (rw (p, q) refl) (again ns n o (totalled 0) _ (total-set u n (rw length-set (inside n o)) 0))
 
 -- ---- what is asked, in words
 

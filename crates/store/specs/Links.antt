@@ -32,7 +32,7 @@ linkOf v = record { parent = v .parent; place = v .place }
 
 -- another body of the same state
 abbrev pub withBody : NodeVal → List Pair → List ℕ → NodeVal
-withBody v ps es = record { state = v .state; parent = v .parent; place = v .place; pairs = ps; edges = es }
+withBody v ps es = record { state = v .state; parent = v .parent; place = v .place; pairs = ps; edges = es; total = v .total }
 
 abbrev pub withEdges : NodeVal → List ℕ → NodeVal
 withEdges v es = withBody v (v .pairs) es
@@ -51,7 +51,7 @@ withFree h first n = set (set h firstFreeWord first) freeWord n
 
 -- an empty node that no edge leads to
 abbrev pub fresh : ℕ → NodeVal
-fresh st = record { state = st; parent = none; place = 0; pairs = []; edges = [] }
+fresh st = record { state = st; parent = none; place = 0; pairs = []; edges = []; total = 0 }
 
 -- the free nodes, as a list: a rising chain, of which the header says the first and how many; no other node has their state
 pub record Frees (h : List ℕ) (ns : List NodeVal) (free : List ℕ) : Type 0 where
@@ -114,7 +114,7 @@ Returnable h ns n = (free : List ℕ) × ReturnReady h ns free n
 -- ---- links
 
 abbrev pub linked : NodeVal → ℕ → ℕ → NodeVal
-linked v p k = record { state = v .state; parent = p; place = k; pairs = v .pairs; edges = v .edges }
+linked v p k = record { state = v .state; parent = p; place = k; pairs = v .pairs; edges = v .edges; total = v .total }
 
 abbrev pub link : List NodeVal → ℕ → ℕ → ℕ → List NodeVal
 link ns c p k = set ns c (linked (nth ns c) p k)

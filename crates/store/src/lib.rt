@@ -8,6 +8,7 @@ use node::PARENT;
 use node::PARENT_IDX;
 use node::Place;
 use node::STATE;
+use node::TOTAL;
 use node::edge;
 use node::node_base;
 use node::parent;
@@ -67,6 +68,7 @@ fn set_free(a: &mut [u64], n: NodeNo, next: u64)
     a[b + STATE] = FREE;
     a[b + PARENT] = next;
     a[b + PARENT_IDX] = 0;
+    a[b + TOTAL] = 0;
 }
 
 // Returns an empty node to its place in the chain.

@@ -7,7 +7,7 @@ use borrow.Author.Needs.{needs}
 use Rattle.model.specs.Insert.{left, right}
 use Rattle.model.specs.Nodes.{Grown}
 use Rattle.standing.specs.Heads.{Rest}
-use Rattle.fix.proofs.Balances.{sides-known, merges-is, merge-in}
+use Rattle.fix.proofs.Balances.{sides-known, merges-is, merges}
 use Rattle.border.specs.Borders.{Descending}
 use Rattle.border.proofs.Sides.{Stocking, stock-merged, child-word, stock-stays, stock-in, stock-moved, left-within, left-stocking}
 use Rattle.border.proofs.fix_left_child.Statement.{statement}
@@ -26,7 +26,7 @@ can-merge-requires : tie.Need-can-merge-requires
 can-merge-requires c κs = let p = c .before .before .before .before .before .before .pre in sides-known (stocked (c .before) _ _ _ (p .coming) .both)
 
 do-merge-requires : tie.Need-do-merge-requires
-do-merge-requires c κs = let p = c .before .before .before .before .before .before .before .before .before .pre in let q = stocked (c .before .before .before .before) _ _ _ (p .coming) in merge-in (q .both) (sym (merges-is (q .both)) ∙ (sym (c .before .before .can-merge .ensures) ∙ c .before .if1 .taken))
+do-merge-requires c κs = let p = c .before .before .before .before .before .before .before .before .before .pre in let q = stocked (c .before .before .before .before) _ _ _ (p .coming) in merges (q .both) (sym (merges-is (q .both)) ∙ (sym (c .before .before .can-merge .ensures) ∙ c .before .if1 .taken))
 
 same-length : tie.Need-same-length
 same-length c = search needs

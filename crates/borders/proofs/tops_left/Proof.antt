@@ -3,10 +3,10 @@
 use lib.Dec.{lit≤}
 use borrow.Author.Needs.{needs}
 use Rattle.model.specs.Lists.{pad, one}
-use Rattle.model.specs.Layout.{wordAt, nodeWords, frame, arena}
+use Rattle.model.specs.Layout.{wordAtBy, nodeWordsBy, frame, arenaBy}
 use Rattle.model.specs.Insert.{left}
-use Rattle.model.specs.Words.{wordsOf}
-use Rattle.model.specs.WellFormed.{chainFrom}
+use Rattle.model.specs.Words.{wordsOfBy}
+use Rattle.model.specs.WellFormed.{chainFromBy}
 use Rattle.borders.proofs.Short.{short, short-on}
 use Rattle.borders.proofs.tops_left.Statement.{statement}
 use Rattle.borders.proofs.tops_left.Tie as tie
@@ -15,21 +15,21 @@ slice-aggregate-left : tie.Need-slice-aggregate-left
 slice-aggregate-left c = search needs
 
 left-requires : tie.Need-left-requires
-unfolding short wordAt chainFrom wordsOf arena nodeWords frame pad one
+unfolding short wordAtBy chainFromBy wordsOfBy arenaBy nodeWordsBy frame pad one
 left-requires c κs = (lit≤ tt, short-on left tt)
 
 slice-aggregate-left-2 : tie.Need-slice-aggregate-left-2
 slice-aggregate-left-2 c = search needs
 
 left-requires-2 : tie.Need-left-requires-2
-unfolding short wordAt chainFrom wordsOf arena nodeWords frame pad one
+unfolding short wordAtBy chainFromBy wordsOfBy arenaBy nodeWordsBy frame pad one
 left-requires-2 c κs = (lit≤ tt, short-on left tt)
 
 slice-aggregate-left-3 : tie.Need-slice-aggregate-left-3
 slice-aggregate-left-3 c = search needs
 
 left-requires-3 : tie.Need-left-requires-3
-unfolding short wordAt chainFrom wordsOf arena nodeWords frame pad one
+unfolding short wordAtBy chainFromBy wordsOfBy arenaBy nodeWordsBy frame pad one
 left-requires-3 c κs = (lit≤ tt, short-on left tt)
 
 returns : tie.Need-returns

@@ -11,18 +11,18 @@ use Rattle.checker.proofs.check_keys.Statement.{statement}
 use Rattle.checker.proofs.check_keys.Tie as tie
 
 abbrev Inv-loop : tie.InvT-loop
-Inv-loop a node n w₀ i₀ w i = (i ≤ n) × Said (leafSteps a (node .0) i) w₀ (Good w)
+Inv-loop f a node n w₀ i₀ w i = (i ≤ n) × Said (leafSteps f a (node .0) i) w₀ (Good w)
 
 abbrev μ-loop : tie.MeasureT-loop
-μ-loop a node n w₀ i₀ w i = n - i
+μ-loop f a node n w₀ i₀ w i = n - i
 
 loop-holds : tie.Need-loop-holds Inv-loop μ-loop
 loop-holds c =
     let x = c .before .args in
-    (omega arith, leaf-none (x .a .now) (x .node .0) (x .before))
+    (omega arith, leaf-none (x .f) (x .a .now) (x .node .0) (x .before))
 
-key-requires : tie.Need-key-requires Inv-loop μ-loop
-key-requires c κs = search needs
+key-of-requires : tie.Need-key-of-requires Inv-loop μ-loop
+key-of-requires c κs = search needs
 
 pass-key-requires : tie.Need-pass-key-requires Inv-loop μ-loop
 pass-key-requires c κs = search needs
@@ -35,8 +35,8 @@ returns c =
     let p = c .before .before in
     let l = p .before .before .before in
     let x = l .before .before .args in
-    leaf-refused (x .a .now) (x .node .0) (l .loop .i) (x .n) (x .before) (omega arith)
-    (rw (c .enum-told .given .1) at (leaf-key (x .a .now) (x .node .0) (l .loop .i) (p .before .key .result) (x .before) (l .loop .w) (p .pass-key .result) (p .before .key .ensures) (l .loop .inv .1) (p .pass-key .ensures)))
+    leaf-refused (x .f) (x .a .now) (x .node .0) (l .loop .i) (x .n) (x .before) (omega arith)
+    (rw (c .enum-told .given .1) at (leaf-key (x .f) (x .a .now) (x .node .0) (l .loop .i) (p .before .key-of .result) (x .before) (l .loop .w) (p .pass-key .result) (p .before .key-of .ensures) (l .loop .inv .1) (p .pass-key .ensures)))
 
 enum-known-v : tie.Need-enum-known-v Inv-loop μ-loop
 enum-known-v c = search needs
@@ -53,7 +53,7 @@ loop-again c =
     let l = p .before .before .before in
     let x = l .before .before .args in (
       omega arith,
-      rw (c .before .v .given .1) at (leaf-key (x .a .now) (x .node .0) (l .loop .i) (p .before .key .result) (x .before) (l .loop .w) (p .pass-key .result) (p .before .key .ensures) (l .loop .inv .1) (p .pass-key .ensures)),
+      rw (c .before .v .given .1) at (leaf-key (x .f) (x .a .now) (x .node .0) (l .loop .i) (p .before .key-of .result) (x .before) (l .loop .w) (p .pass-key .result) (p .before .key-of .ensures) (l .loop .inv .1) (p .pass-key .ensures)),
     )
 
 returns-2 : tie.Need-returns-2 Inv-loop μ-loop
@@ -61,7 +61,7 @@ returns-2 c =
     let l = c .before in
     let x = l .before .before .args in
     let e : l .loop .i ≡ x .n = omega arith in
-    rw (← e) (leaf-gap (x .a .now) (x .node .0) (l .loop .i) (x .before) (l .loop .w) (l .loop .inv .1))
+    rw (← e) (leaf-gap (x .f) (x .a .now) (x .node .0) (l .loop .i) (x .before) (l .loop .w) (l .loop .inv .1))
 
 pub check-keys-spec : {M : Type 1} → statement M
 check-keys-spec =
@@ -70,7 +70,7 @@ check-keys-spec =
     Inv-loop
     μ-loop
     loop-holds
-    key-requires
+    key-of-requires
     pass-key-requires
     enum-told
     returns

@@ -5,13 +5,13 @@ use borrow.Author.Needs.{needs}
 use Rattle.checker.proofs.child.Statement.{statement}
 use Rattle.checker.proofs.child.Tie as tie
 
-edge-requires : tie.Need-edge-requires
-edge-requires c κs = search needs
+edge-of-requires : tie.Need-edge-of-requires
+edge-of-requires c κs = search needs
 
 returns : tie.Need-returns
 returns c =
     let x = c .before .before .args in
-    λ i. record { below = x .below; fewest = least; node = c .edge .ensures i; parent = x .node .0; place = x .at .0 }
+    λ i. record { below = x .below; fewest = least; node = c .edge-of .ensures i; parent = x .node .0; place = x .at .0 }
 
 pub child-spec : {M : Type 1} → statement M
-child-spec = tie.close (tie.spec edge-requires returns)
+child-spec = tie.close (tie.spec edge-of-requires returns)

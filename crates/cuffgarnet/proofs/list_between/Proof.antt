@@ -1,7 +1,7 @@
 -- `cuffgarnet::list_between` meets its contract.
 -- Assumes nothing.
 use borrow.Author.Needs.{needs}
-use Rattle.cuffgarnet.proofs.Bounds.{no-start, no-end, both}
+use Rattle.cuffgarnet.proofs.Bounds.{no-start, no-end, both, listed, unlisted}
 use Rattle.cuffgarnet.proofs.list_between.Statement.{statement}
 use Rattle.cuffgarnet.proofs.list_between.Tie as tie
 
@@ -27,16 +27,16 @@ list-requires : tie.Need-list-requires
 list-requires c κs = search needs
 
 returns : tie.Need-returns
-returns c = let x = c .before .before .before .before .before .args in no-start (x .start) (x .end) (x .arena .now) (x .out .now) _ (c .before .enum-told .given .1) (c .no-kind .ensures _)
+returns c = let x = c .before .before .before .before .before .args in no-start (x .arena .now) (listed (x .arena .now) (x .out .now) (x .out .now) (c .no-kind .result)) (unlisted (x .out .now) (x .out .now) (c .no-kind .result)) (x .start) (x .end) (c .before .enum-told .given .1) (c .no-kind .ensures _)
 
 returns-2 : tie.Need-returns-2
-returns-2 c = let x = c .before .before .before .before .before .before .before .before .args in no-end (x .start) (x .end) (x .arena .now) (x .out .now) _ _ (c .before .before .before .before .start .given .1) (c .before .enum-told2 .given .1) (c .no-kind2 .ensures _)
+returns-2 c = let x = c .before .before .before .before .before .before .before .before .args in no-end (x .arena .now) (listed (x .arena .now) (x .out .now) (x .out .now) (c .no-kind2 .result)) (unlisted (x .out .now) (x .out .now) (c .no-kind2 .result)) (x .start) (x .end) _ (c .before .before .before .before .start .given .1) (c .before .enum-told2 .given .1) (c .no-kind2 .ensures _)
 
 same-length : tie.Need-same-length
 same-length c = search needs
 
 returns-3 : tie.Need-returns-3
-returns-3 c = let x = c .before .before .before .before .before .before .before .before .before .before .before .before .args in both (x .start) (x .end) (x .arena .now) (x .out .now) _ _ _ (c .before .before .before .before .before .before .before .before .start .given .1) (c .before .before .before .before .before .end .given .1) _ (c .before .before .list .ensures)
+returns-3 c = let x = c .before .before .before .before .before .before .before .before .before .before .before .before .args in let l = c .before .before .list in both (x .arena .now) (listed (x .arena .now) (x .out .now) (l .last .1 .1 .0) (l .result)) (unlisted (x .out .now) (l .last .1 .1 .0) (l .result)) (x .start) (x .end) _ _ (c .before .before .before .before .before .before .before .before .start .given .1) (c .before .before .before .before .before .end .given .1) (l .ensures)
 
 pub list-between-spec : {M : Type 1} → statement M
 list-between-spec =

@@ -8,10 +8,10 @@ use Rattle.damage.proofs.sizes.Statement.{statement}
 use Rattle.damage.proofs.sizes.Tie as tie
 
 abbrev Inv-loop : tie.InvT-loop
-Inv-loop a₀ k₀ a k = (k ≤ 201) × (length a ≡ length a₀)
+Inv-loop a₀ k₀ a k = (k ≤ 206) × (length a ≡ length a₀)
 
 abbrev μ-loop : tie.MeasureT-loop
-μ-loop a₀ k₀ a k = 201 - k
+μ-loop a₀ k₀ a k = 206 - k
 
 loop-holds : tie.Need-loop-holds Inv-loop μ-loop
 loop-holds c = search needs

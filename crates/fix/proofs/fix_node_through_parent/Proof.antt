@@ -12,7 +12,7 @@ use Rattle.model.specs.Remove.{canMerge}
 use Rattle.standing.specs.Heads.{Rest}
 use Rattle.fix.specs.Repairs.{Mending}
 use Rattle.fix.proofs.Choices.{mending-within, mending-long}
-use Rattle.fix.proofs.Balances.{Pairing, sides-known, merges-is, merge-in, merge-held, lend-in, lend-held, enough, at-root, root-empty, left-pairing, right-pairing}
+use Rattle.fix.proofs.Balances.{Pairing, sides-known, merges-is, merges, merge-held, lend-in, lend-held, enough, at-root, root-empty, left-pairing, right-pairing}
 use Rattle.fix.proofs.fix_node_through_parent.Statement.{statement}
 use Rattle.fix.proofs.fix_node_through_parent.Tie as tie
 
@@ -42,7 +42,7 @@ do-merge-requires : tie.Need-do-merge-requires
 do-merge-requires c κs =
     let p = c .before .before .before .before .before .before .before .before .before .before .before .before .before .before .before .before .before .pre in
     let q = left-of (c .before .before .before .before) (p .rest) (p .end) (p .mending) in
-    merge-in (q .both) (sym (merges-is (q .both)) ∙ (sym (c .before .before .can-merge .ensures) ∙ c .before .if2 .taken))
+    merges (q .both) (sym (merges-is (q .both)) ∙ (sym (c .before .before .can-merge .ensures) ∙ c .before .if2 .taken))
 
 same-length-2 : tie.Need-same-length-2
 same-length-2 c = search needs
@@ -86,7 +86,7 @@ do-merge-requires-2 : tie.Need-do-merge-requires-2
 do-merge-requires-2 c κs =
     let p = c .before .before .before .before .before .before .before .before .before .before .before .before .before .before .before .before .before .pre in
     let q = right-of (c .before .before .before .before) (p .rest) (p .end) (p .mending) in
-    merge-in (q .both) (sym (merges-is (q .both)) ∙ (sym (c .before .before .can-merge2 .ensures) ∙ c .before .if3 .taken))
+    merges (q .both) (sym (merges-is (q .both)) ∙ (sym (c .before .before .can-merge2 .ensures) ∙ c .before .if3 .taken))
 
 same-length-4 : tie.Need-same-length-4
 same-length-4 c = search needs

@@ -12,6 +12,7 @@ use mathlib.Core.List.{List}
 use Rattle.model.specs.Layout.{most, keysWord, valuesWord}
 use Rattle.inspect.proofs.Words.{or-left, or-right, or-both, Bare, rest-bare, bare-rest}
 use Rattle.inspect.proofs.Decisions.{decides-as, equal, apart}
+use Rattle.formats.proofs.Bases.{size-least, sized-within}
 use borrow.Author.Needs.{needs}
 use Rattle.inspect.proofs.rest_zero.Statement.{statement}
 use Rattle.inspect.proofs.rest_zero.Tie as tie
@@ -41,8 +42,8 @@ Inv-loop a n b all₀ i₀ all i = Ored a b n i all
 abbrev μ-loop : tie.MeasureT-loop
 μ-loop a n b all₀ i₀ all i = most - i
 
-node-base-requires : tie.Need-node-base-requires Inv-loop μ-loop
-node-base-requires c κs = search needs
+base-of-requires : tie.Need-base-of-requires Inv-loop μ-loop
+base-of-requires c κs = search (needs, size-least, sized-within)
 
 loop-holds : tie.Need-loop-holds Inv-loop μ-loop
 loop-holds c = record { clear = λ e k l u. absurd (omega arith); none = λ z. refl }
@@ -57,7 +58,7 @@ mul-kept : tie.Need-mul-kept Inv-loop μ-loop
 mul-kept c = search needs
 
 shared-slice-read-kept : tie.Need-shared-slice-read-kept Inv-loop μ-loop
-shared-slice-read-kept c = search needs
+shared-slice-read-kept c = let l = size-least (c .before .before .before .before .before .args .f) in search needs
 
 add-kept-3 : tie.Need-add-kept-3 Inv-loop μ-loop
 add-kept-3 c = search needs
@@ -69,10 +70,10 @@ mul-kept-2 : tie.Need-mul-kept-2 Inv-loop μ-loop
 mul-kept-2 c = search needs
 
 shared-slice-read-kept-2 : tie.Need-shared-slice-read-kept-2 Inv-loop μ-loop
-shared-slice-read-kept-2 c = search needs
+shared-slice-read-kept-2 c = let l = size-least (c .before .before .before .before .before .before .args .f) in search needs
 
 kept-requires : tie.Need-kept-requires Inv-loop μ-loop
-kept-requires c κs = search needs
+kept-requires c κs = search (needs, size-least, sized-within)
 
 add-i : tie.Need-add-i Inv-loop μ-loop
 add-i c = search needs
@@ -88,8 +89,8 @@ returns c =
     let l = c .before in
     let x = l .before .before .before .args in
     decides-as (eqb (l .loop .all) 0)
-    (λ e. bare-rest (x .a .now) (x .node .0) (x .n) (l .before .node-base .ensures) (λ k f t. l .loop .inv .clear e k f (omega arith)))
-    (λ z. l .loop .inv .none (rest-bare (x .a .now) (x .node .0) (x .n) (l .before .node-base .ensures) z))
+    (λ e. bare-rest (x .f) (x .a .now) (x .node .0) (x .n) (l .before .base-of .ensures) (λ k f t. l .loop .inv .clear e k f (omega arith)))
+    (λ z. l .loop .inv .none (rest-bare (x .f) (x .a .now) (x .node .0) (x .n) (l .before .base-of .ensures) z))
     (equal (l .loop .all) 0)
 
 pub rest-zero-spec : {M : Type 1} → statement M
@@ -98,7 +99,7 @@ rest-zero-spec =
     (tie.spec
     Inv-loop
     μ-loop
-    node-base-requires
+    base-of-requires
     loop-holds
     add-kept
     add-kept-2

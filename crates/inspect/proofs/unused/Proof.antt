@@ -3,6 +3,7 @@
 use native.Mathlib.Omega.{arith}
 use Rattle.inspect.proofs.Decisions.{decided, refuted, decides-as}
 use Rattle.inspect.proofs.Words.{used-most}
+use Rattle.formats.proofs.Bases.{size-least, sized-within}
 use borrow.Author.Needs.{needs}
 use Rattle.inspect.proofs.unused.Statement.{statement}
 use Rattle.inspect.proofs.unused.Tie as tie
@@ -11,7 +12,7 @@ add-zeros : tie.Need-add-zeros
 add-zeros c = search needs
 
 zeros-requires : tie.Need-zeros-requires
-zeros-requires c κs = search needs
+zeros-requires c κs = let l = size-least (c .before .before .args .f) in search needs
 
 returns : tie.Need-returns
 returns c =
@@ -23,7 +24,7 @@ add-zeros-2 : tie.Need-add-zeros-2
 add-zeros-2 c = search needs
 
 zeros-requires-2 : tie.Need-zeros-requires-2
-zeros-requires-2 c κs = search needs
+zeros-requires-2 c κs = let l = size-least (c .before .before .before .before .args .f) in search needs
 
 returns-2 : tie.Need-returns-2
 returns-2 c =
@@ -32,7 +33,7 @@ returns-2 c =
     refuted (c .before .zeros2 .result) (c .before .zeros2 .ensures) (c .if2 .taken) (rw e (u .values-rest))
 
 edges-used-requires : tie.Need-edges-used-requires
-edges-used-requires c κs = search needs
+edges-used-requires c κs = search (needs, size-least, sized-within)
 
 add-zeros-3 : tie.Need-add-zeros-3
 add-zeros-3 c =
@@ -40,7 +41,7 @@ add-zeros-3 c =
     omega (arith, c .edges-used .ensures, used-most (x .args .v .below) (x .args .n), x .pre .2)
 
 zeros-requires-3 : tie.Need-zeros-requires-3
-zeros-requires-3 c κs = search needs
+zeros-requires-3 c κs = search (needs, size-least, sized-within)
 
 returns-3 : tie.Need-returns-3
 returns-3 c =

@@ -33,8 +33,8 @@ Inv-loop a from to b all₀ k₀ all k = Ored a b from k to all
 abbrev μ-loop : tie.MeasureT-loop
 μ-loop a from to b all₀ k₀ all k = to - k
 
-node-base-requires : tie.Need-node-base-requires Inv-loop μ-loop
-node-base-requires c κs = search needs
+base-of-requires : tie.Need-base-of-requires Inv-loop μ-loop
+base-of-requires c κs = search needs
 
 loop-holds : tie.Need-loop-holds Inv-loop μ-loop
 loop-holds c = record { begun = omega arith; clear = λ e k l u. absurd (omega arith); none = λ z. refl }
@@ -62,8 +62,8 @@ returns c =
     let l = c .before in
     let x = l .before .before .before .args in
     decides-as (eqb (l .loop .all) 0)
-    (λ e. clear-zeros (x .a .now) (x .n .0) (x .from) (x .to) (l .before .node-base .ensures) (λ k f t. l .loop .inv .clear e k f (omega arith)))
-    (λ z. l .loop .inv .none (zeros-clear (x .a .now) (x .n .0) (x .from) (x .to) (l .before .node-base .ensures) z))
+    (λ e. clear-zeros (x .f) (x .a .now) (x .n .0) (x .from) (x .to) (l .before .base-of .ensures) (λ k f t. l .loop .inv .clear e k f (omega arith)))
+    (λ z. l .loop .inv .none (zeros-clear (x .f) (x .a .now) (x .n .0) (x .from) (x .to) (l .before .base-of .ensures) z))
     (equal (l .loop .all) 0)
 
 pub zeros-spec : {M : Type 1} → statement M
@@ -72,7 +72,7 @@ zeros-spec =
     (tie.spec
     Inv-loop
     μ-loop
-    node-base-requires
+    base-of-requires
     loop-holds
     add-all
     mul-all

@@ -3,7 +3,7 @@
 use Prim.Native.Nat.{ℕ, _+_}
 use mathlib.Core.Path.{ap}
 use lib.ListN.{getD}
-use Rattle.model.specs.Layout.{wordAt}
+use Rattle.model.specs.Layout.{wordAtBy}
 use borrow.Author.Needs.{needs}
 use Rattle.node.proofs.word.Statement.{statement}
 use Rattle.node.proofs.word.Tie as tie
@@ -21,7 +21,7 @@ shared-slice-read-result : tie.Need-shared-slice-read-result
 shared-slice-read-result c = search needs
 
 returns : tie.Need-returns
-unfolding wordAt
+unfolding wordAtBy
 returns c =
     let x = c .before .before .before .args in
     ap (λ (k : ℕ). getD (x .a .now) (k + x .k) 0) (c .before .node-base .ensures)

@@ -26,6 +26,18 @@ slice-aggregate-lay c = search needs
 lay-requires : tie.Need-lay-requires Inv-loop μ-loop
 lay-requires c κs = search needs
 
+mul-lay-2 : tie.Need-mul-lay-2 Inv-loop μ-loop
+mul-lay-2 c = search needs
+
+add-lay-2 : tie.Need-add-lay-2 Inv-loop μ-loop
+add-lay-2 c = search needs
+
+slice-aggregate-lay-2 : tie.Need-slice-aggregate-lay-2 Inv-loop μ-loop
+slice-aggregate-lay-2 c = search needs
+
+lay-requires-2 : tie.Need-lay-requires-2 Inv-loop μ-loop
+lay-requires-2 c κs = search needs
+
 add-pairs : tie.Need-add-pairs Inv-loop μ-loop
 add-pairs c = search needs
 
@@ -35,23 +47,23 @@ pairs-requires c κs = search needs
 loop-holds : tie.Need-loop-holds Inv-loop μ-loop
 loop-holds c = search needs
 
-mul-lay-2 : tie.Need-mul-lay-2 Inv-loop μ-loop
-mul-lay-2 c = search needs
-
-add-lay-2 : tie.Need-add-lay-2 Inv-loop μ-loop
-add-lay-2 c = search needs
+mul-lay-3 : tie.Need-mul-lay-3 Inv-loop μ-loop
+mul-lay-3 c = search needs
 
 add-lay-3 : tie.Need-add-lay-3 Inv-loop μ-loop
 add-lay-3 c = search needs
 
+add-lay-4 : tie.Need-add-lay-4 Inv-loop μ-loop
+add-lay-4 c = search needs
+
 add-leaf : tie.Need-add-leaf Inv-loop μ-loop
 add-leaf c = search needs
 
-slice-aggregate-lay-2 : tie.Need-slice-aggregate-lay-2 Inv-loop μ-loop
-slice-aggregate-lay-2 c = search needs
+slice-aggregate-lay-3 : tie.Need-slice-aggregate-lay-3 Inv-loop μ-loop
+slice-aggregate-lay-3 c = search needs
 
-lay-requires-2 : tie.Need-lay-requires-2 Inv-loop μ-loop
-lay-requires-2 c κs = search needs
+lay-requires-3 : tie.Need-lay-requires-3 Inv-loop μ-loop
+lay-requires-3 c κs = search needs
 
 add-leaf-2 : tie.Need-add-leaf-2 Inv-loop μ-loop
 add-leaf-2 c = search needs
@@ -87,15 +99,19 @@ inner-spec =
     add-lay
     slice-aggregate-lay
     lay-requires
+    mul-lay-2
+    add-lay-2
+    slice-aggregate-lay-2
+    lay-requires-2
     add-pairs
     pairs-requires
     loop-holds
-    mul-lay-2
-    add-lay-2
+    mul-lay-3
     add-lay-3
+    add-lay-4
     add-leaf
-    slice-aggregate-lay-2
-    lay-requires-2
+    slice-aggregate-lay-3
+    lay-requires-3
     add-leaf-2
     leaf-requires
     add-key

@@ -9,7 +9,7 @@ use Rattle.replay.proofs.run_all.Statement.{statement}
 use Rattle.replay.proofs.run_all.Tie as tie
 
 abbrev Inv-loop : tie.InvT-loop
-Inv-loop a₀ b₀ mix₀ turns₀ a b mix turns = (length a ≡ 5710) × (length a ≡ length a₀) × (length b ≡ 24)
+Inv-loop a₀ b₀ mix₀ turns₀ a b mix turns = (length a ≡ 5860) × (length a ≡ length a₀) × (length b ≡ 24)
 
 abbrev μ-loop : tie.MeasureT-loop
 μ-loop a₀ b₀ mix₀ turns₀ a b mix turns = turns

@@ -37,6 +37,15 @@ mul-a-3 c = search needs
 slice-write-a-3 : tie.Need-slice-write-a-3
 slice-write-a-3 c = simp length-set (omega arith)
 
+add-a-4 : tie.Need-add-a-4
+add-a-4 c = search needs
+
+mul-a-4 : tie.Need-mul-a-4
+mul-a-4 c = search needs
+
+slice-write-a-4 : tie.Need-slice-write-a-4
+slice-write-a-4 c = simp length-set (omega arith)
+
 same-length : tie.Need-same-length
 same-length c = search needs
 
@@ -57,5 +66,8 @@ set-free-spec =
     add-a-3
     mul-a-3
     slice-write-a-3
+    add-a-4
+    mul-a-4
+    slice-write-a-4
     same-length
     returns)

@@ -1,10 +1,10 @@
--- `checker::well_formed` meets its contract: it says true exactly for well-formed words.
+-- `checker::well_formed_by` meets its contract: it says true exactly for well-formed words.
 -- Assumes nothing.
 use Rattle.inspect.proofs.Decisions.{decided, refuted, decides-as}
 use Rattle.checker.proofs.Whole.{formed, formed-heading, formed-passes, formed-finished}
 use borrow.Author.Needs.{needs}
-use Rattle.checker.proofs.well_formed.Statement.{statement}
-use Rattle.checker.proofs.well_formed.Tie as tie
+use Rattle.checker.proofs.well_formed_by.Statement.{statement}
+use Rattle.checker.proofs.well_formed_by.Tie as tie
 
 heading-requires : tie.Need-heading-requires
 heading-requires c κs = search needs
@@ -37,8 +37,8 @@ returns-3 c =
     let g = rw (c .before .before .end .given .1) at (t .walk-tree .ensures) in
     decides-as (c .finished .result) (λ f. formed h (g .0) _ (g .1) f) (λ f. formed-finished f _ (g .1)) (c .finished .ensures)
 
-pub well-formed-spec : {M : Type 1} → statement M
-well-formed-spec =
+pub well-formed-by-spec : {M : Type 1} → statement M
+well-formed-by-spec =
     tie.close
     (tie.spec
     heading-requires

@@ -1,0 +1,129 @@
+// The upgrade: the words of a format 1 arena into a slice of format 2, the same nodes at the same numbers, and the counts below each node.
+use checker::well_formed_by;
+use model::Answer;
+use model::Layout;
+use node::COUNT;
+use node::FORMAT;
+use node::HEADER;
+use node::HEIGHT;
+use node::NodeNo;
+use node::Place;
+use node::ROOT;
+use node::TOTAL;
+use node::WORDS;
+use node::edge;
+use node::len;
+use node::node_base;
+use totals::set_right;
+ghost use mathlib.Core.Path.{_≡_};
+ghost use mathlib.Core.List.{List, [], _∷_, _++_};
+ghost use Prim.Native.Nat.{ℕ, suc};
+ghost use lib.ListN.{length, take, drop, set};
+ghost use Rattle.model.specs.declared.Layout.the-variants.{Format1};
+ghost use Rattle.model.specs.Layout.{Sized, SizedBy, headerSize, nodeSize, formatNumber, formatWord, totalWord, NodeVal, Arena};
+ghost use Rattle.model.specs.Public.{Promised};
+ghost use Rattle.model.specs.Public as promise;
+ghost use Rattle.node.specs.Reading.{Has};
+ghost use Rattle.upgrade.specs.Counting.{copies, TreeIn, CountedIn, EdgesIn};
+
+// Copies every word of as long a slice.
+fn copy_words(to: &mut [u64], from: &[u64])
+    requires { ⌜ length (now from) ≡ length (now to) ⌝ }
+    ensures { λ _. ⌜ now (to .exit) ≡ now (from .entry) ⌝ }
+{
+    let mut i = 0;
+    while i < to.len() {
+        let t = from[i];
+        to[i] = t;
+        i += 1;
+    }
+}
+
+// The header's words, with the number of format 2.
+fn copy_header(to: &mut [u64], from: &[u64])
+    requires { ⌜ (length (now from) ≡ headerSize) × (length (now to) ≡ headerSize) ⌝ }
+    ensures { λ _. ⌜ now (to .exit) ≡ set (now (from .entry)) formatWord formatNumber ⌝ }
+{
+    copy_words(to, from);
+    to[FORMAT] = 2;
+}
+
+// A node's words, with a count of 0.
+fn copy_node(to: &mut [u64], from: &[u64])
+    requires { ⌜ (length (now from) ≡ totalWord) × (length (now to) ≡ nodeSize) ⌝ }
+    ensures { λ _. ⌜ now (to .exit) ≡ now (from .entry) ++ (0 ∷ []) ⌝ }
+{
+    let e = TOTAL;
+    copy_words(&mut to[0..e], from);
+    to[TOTAL] = 0;
+}
+
+// All nodes' words.
+fn copy_nodes(to: &mut [u64], from: &[u64], count: usize)
+    requires { ⌜ Sized count (length (now to)) × SizedBy Format1 count (length (now from)) ⌝ }
+    ensures { λ _. ⌜ now (to .exit) ≡ take headerSize (now (to .entry)) ++ copies (now (from .entry)) 0 count ⌝ }
+{
+    let mut i: usize = 0;
+    while i < count {
+        let b = node_base(NodeNo(i));
+        let e = b + WORDS;
+        let c = b - i;
+        let d = c + TOTAL;
+        copy_node(&mut to[b..e], &from[c..d]);
+        i += 1;
+    }
+}
+
+// All words, with no counts.
+fn copy_all(to: &mut [u64], from: &[u64], count: usize)
+    requires { ⌜ Sized count (length (now to)) × SizedBy Format1 count (length (now from)) ⌝ }
+    ensures { λ _. ⌜ now (to .exit) ≡ set (take headerSize (now (from .entry))) formatWord formatNumber ++ copies (now (from .entry)) 0 count ⌝ }
+{
+    let b = HEADER;
+    copy_header(&mut to[0..b], &from[0..b]);
+    copy_nodes(to, from, count);
+}
+
+// Sets the counts of a node and of all below it, which has so many levels below it.
+fn count_node(a: &mut [u64], n: NodeNo, below: usize)
+    requires { ⌜ Has (now a) (λ hd ns. TreeIn ns (n .0) below) ⌝ }
+    ensures { λ _. ⌜ ((hd : List ℕ) (ns : List NodeVal) (t : TreeIn ns (n .0) below) → Arena (now (a .entry)) hd ns → CountedIn (now (a .exit)) hd ns below (t .tree)) ⌝ }
+{
+    if below == 0 {
+        set_right(a, n);
+        return;
+    }
+    count_edges(a, n, below - 1);
+    set_right(a, n);
+}
+
+// The same of the nodes that its edges lead to.
+fn count_edges(a: &mut [u64], n: NodeNo, below: usize)
+    requires { ⌜ Has (now a) (λ hd ns. TreeIn ns (n .0) (suc below)) ⌝ }
+    ensures { λ _. ⌜ ((hd : List ℕ) (ns : List NodeVal) (t : TreeIn ns (n .0) (suc below)) → Arena (now (a .entry)) hd ns → EdgesIn (now (a .exit)) hd ns below (t .tree)) ⌝ }
+{
+    let m = len(a, n);
+    let mut i: usize = 0;
+    while i <= m {
+        let child = edge(a, n, Place(i));
+        count_node(a, child, below);
+        i += 1;
+    }
+}
+
+// The upgrade. The source is only read; the target's words do not matter, only how many there are.
+pub fn upgrade(source: &[u64], target: &mut [u64]) -> Answer
+    ensures { λ r. ⌜ Promised (promise.upgrade (now (source .entry))) (now (target .entry)) (now (target .exit)) tt r ⌝ }
+{
+    if !well_formed_by(Layout::Format1, source) {
+        return Answer::BadArena;
+    }
+    let count = source[COUNT] as usize;
+    if target.len() != node_base(NodeNo(count)) {
+        return Answer::BadSize;
+    }
+    copy_all(target, source, count);
+    let root = NodeNo(source[ROOT] as usize);
+    count_node(target, root, source[HEIGHT] as usize);
+    Answer::Done
+}
