@@ -2,6 +2,12 @@
 // nothing. Counts by a function's name would need callgrind to follow calls and returns, which goes wrong on aarch64.
 #include <valgrind/callgrind.h>
 
-void collect_begin(void) { CALLGRIND_ZERO_STATS; }
+void collect_begin(void) {
+    CALLGRIND_START_INSTRUMENTATION;
+    CALLGRIND_ZERO_STATS;
+}
 
-void collect_end(const char *name) { CALLGRIND_DUMP_STATS_AT(name); }
+void collect_end(const char *name) {
+    CALLGRIND_DUMP_STATS_AT(name);
+    CALLGRIND_STOP_INSTRUMENTATION;
+}

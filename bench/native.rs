@@ -2,8 +2,8 @@
 //! interleaved, answers compared; times are the thread's own, so that other work on the machine disturbs them less.
 //!
 //!     native try PAIRS NODES ROUNDS CASES       random orders, listings and checks beside BTreeMap
-//!     native times PAIRS NODES ROUNDS CASES     a line a case, size and contestant
-//!     native one CASE PAIRS | KIND NODES        one round of one case, or one check of an arena, for callgrind
+//!     native times PAIRS NODES ROUNDS CASES CALLS       a line a case, size and contestant
+//!     native count PAIRS NODES ORDERS CASES CALLS       one round of each case, checks of arenas, and single calls, for callgrind
 //!     native returns NODES                      runs that return nodes: turns of the search for their place, in copies that count
 //!                                               them, else times
 
@@ -27,22 +27,36 @@ pub struct Ours {
     timed_batch: fn(&mut [u64], &[u64], &mut [u64]),
     timed_check: fn(&[u64]),
     counted: Option<unsafe extern "C" fn(*mut u64)>,
+    ranks: Option<Ranks>,
+}
+
+/// Rank, count and pair at a rank, in a variant that has them.
+pub struct Ranks {
+    rank: unsafe extern "C" fn(*const u64, u64, u64, *mut u64) -> u64,
+    count: unsafe extern "C" fn(*const u64, u64, u64, u64, u64, u64, *mut u64) -> u64,
+    at: unsafe extern "C" fn(*const u64, u64, u64, *mut u64, *mut u64) -> u64,
 }
 
 mod variants {
-    use super::Ours;
+    use super::{Ours, Ranks};
     include!(env!("VARIANTS"));
 }
 
-use variants::OURS;
+use variants::{OURS, UNCHECKED};
 
 // SAFETY, of every call of ours: the pointers and lengths are those of slices and of local words, and what is written is
 // lent as `&mut`. The calls have no `requires`: they take any words and end.
 impl Ours {
+    /// An empty arena of so many nodes, in the variant's own format: 38 words a node in format 1, 39 in format 2.
     fn arena(&self, nodes: usize) -> Vec<u64> {
-        let mut arena = vec![0; 10 + 38 * nodes];
-        assert_eq!(unsafe { (self.format)(arena.as_mut_ptr(), arena.len() as u64) }, 0);
-        arena
+        for each in [39, 38] {
+            let mut arena = vec![0; 10 + each * nodes];
+            let number = unsafe { (self.format)(arena.as_mut_ptr(), arena.len() as u64) };
+            if number == 0 && arena[1] == nodes as u64 {
+                return arena;
+            }
+        }
+        panic!("{}: no arena of {nodes} nodes", self.name);
     }
 
     fn run(&self, arena: &mut [u64], orders: &[u64]) -> Vec<u64> {
@@ -161,6 +175,8 @@ struct Case<'a> {
     name: &'a str,
     keys: Keys,
     all: All,
+    /// Orders a round.
+    most: usize,
     round: usize,
     turn: usize,
     run: Vec<Vec<f64>>,
@@ -169,13 +185,16 @@ struct Case<'a> {
 }
 
 impl<'a> Case<'a> {
-    fn new(name: &'a str, pairs: usize) -> Self {
-        let keys = Keys::new(pairs);
+    fn new(name: &'a str, pairs: usize, most: usize) -> Self {
+        let mut keys = Keys::new(pairs);
         let mut all = All::new(keys.nodes(matches!(name, "new" | "delete")));
+        if matches!(name, "new" | "delete") {
+            keys.absent.truncate(most);
+        }
         for who in 0..ALL {
             all.untimed(who, &orders(1, keys.present.iter().copied()));
         }
-        Case { name, keys, all, round: 0, turn: 0, run: vec![vec![]; ALL], check: vec![vec![]; ALL], ops: 0 }
+        Case { name, keys, all, most, round: 0, turn: 0, run: vec![vec![]; ALL], check: vec![vec![]; ALL], ops: 0 }
     }
 
     fn round(&mut self, count: bool) {
@@ -184,8 +203,8 @@ impl<'a> Case<'a> {
         let (mut run, mut check) = (vec![vec![]; ALL], vec![vec![]; ALL]);
         self.ops = 0;
         if matches!(self.name, "new" | "delete") {
-            // all absent keys put and deleted again, as often as makes OPS orders; one of the two is timed
-            for _ in 0..OPS / self.keys.absent.len() {
+            // all absent keys put and deleted again, as often as makes so many orders; one of the two is timed
+            for _ in 0..self.most / self.keys.absent.len() {
                 for code in [1, 3] {
                     rand.shuffle(&mut self.keys.absent);
                     let list = orders(code, self.keys.absent.iter().copied());
@@ -197,13 +216,14 @@ impl<'a> Case<'a> {
                 }
             }
         } else {
-            let list = match self.name {
+            let mut list = match self.name {
                 "get" => drawn(2, &self.keys.present, &mut rand),
                 "absent" => drawn(2, &self.keys.absent, &mut rand),
                 "replace" => drawn(1, &self.keys.present, &mut rand),
                 "mixed" => mixed(&self.keys.every(), &mut rand),
                 _ => panic!("no case {}", self.name),
             };
+            list.truncate(3 * self.most);
             self.one(&list, count, &mut run, &mut check);
         }
         let mean = |list: &Vec<f64>| list.iter().sum::<f64>() / list.len() as f64;
@@ -228,10 +248,11 @@ impl<'a> Case<'a> {
         for who in order.into_iter().map(|who| who as usize) {
             let check_alone = || (OURS[who].timed_check)(&self.all.arenas[who]);
             if count {
+                let part = format!("case {} {} {}", self.name, self.keys.present.len(), name_of(who));
                 if who < BTREE {
-                    collected(&format!("check {}", name_of(who)), check_alone);
+                    collected(&format!("{part} less"), check_alone);
                 }
-                collected(&format!("run {}", name_of(who)), || self.all.timed(who, list, &mut answers[who]));
+                collected(&part, || self.all.timed(who, list, &mut answers[who]));
             } else if who < BTREE && self.turn % 2 == 0 {
                 check[who].push(spent(check_alone) / n as f64);
                 answers[who] = self.all.untimed(who, list);
@@ -247,7 +268,7 @@ impl<'a> Case<'a> {
 }
 
 fn time_case(name: &str, pairs: usize, rounds: usize) {
-    let mut case = Case::new(name, pairs);
+    let mut case = Case::new(name, pairs, OPS);
     (0..2 * rounds).for_each(|_| case.round(false));
     let check: Vec<f64> = (0..ALL).map(|who| if who < BTREE { median(case.check[who].clone()) } else { 0.0 }).collect();
     // a round's own ratio: they ran one after the other, whatever else the machine did that minute
@@ -268,8 +289,8 @@ fn time_case(name: &str, pairs: usize, rounds: usize) {
 // ---- the check
 
 /// An arena with no free node to speak of, one as it is in use, and one of free nodes, as bench.rs has them.
-fn arena(kind: &str, nodes: usize) -> Vec<u64> {
-    let mut arena = OURS[0].arena(nodes);
+fn arena(ours: &Ours, kind: &str, nodes: usize) -> Vec<u64> {
+    let mut arena = ours.arena(nodes);
     let mut rand = Rand(nodes as u64);
     let pairs = match kind {
         "full" => 11 * nodes,
@@ -277,30 +298,103 @@ fn arena(kind: &str, nodes: usize) -> Vec<u64> {
         _ => 0,
     };
     let asked: Vec<u64> = (0..pairs).map(|_| rand.next()).collect();
-    OURS[0].run(&mut arena, &orders(1, asked.into_iter()));
+    ours.run(&mut arena, &orders(1, asked.into_iter()));
     arena
 }
 
+/// Each checks its own arena, of the same orders, which the OR then passes.
 fn time_check(kind: &str, nodes: usize, rounds: usize) {
-    let arena = arena(kind, nodes);
-    let times = (2_000_000 / arena.len()).max(1);
-    let mut check = vec![vec![]; OURS.len() + 1];
+    let arenas: Vec<Vec<u64>> = OURS.iter().map(|o| arena(o, kind, nodes)).collect();
+    let times = (2_000_000 / arenas[0].len()).max(1);
+    let (mut check, mut or) = (vec![vec![]; OURS.len()], vec![vec![]; OURS.len()]);
     for round in 0..rounds {
-        for i in 0..check.len() {
-            let who = (i + round) % check.len();
-            let time = match OURS.get(who) {
-                Some(ours) => spent(|| (0..times).for_each(|_| (ours.timed_check)(black_box(&arena)))),
-                None => spent(|| (0..times).for_each(|_| _ = black_box(timed_or(black_box(&arena))))),
-            };
-            check[who].push(time / times as f64);
+        for i in 0..OURS.len() {
+            let who = (i + round) % OURS.len();
+            let arena = &arenas[who];
+            let a_word = (times * arena.len()) as f64;
+            check[who].push(spent(|| (0..times).for_each(|_| (OURS[who].timed_check)(black_box(arena)))) / a_word);
+            or[who].push(spent(|| (0..times).for_each(|_| _ = black_box(timed_or(black_box(arena))))) / a_word);
         }
     }
-    let or = &check[OURS.len()];
     for (who, ours) in OURS.iter().enumerate() {
-        let [low, middle, high] = quarters(check[who].iter().zip(or).map(|(a, b)| a / b).collect());
-        let each = |list: &Vec<f64>| quarters(list.clone())[0]; // other work on the machine only adds
-        print!("{kind},{nodes},{},{},{}", ours.name, arena.len(), arena[5]);
-        println!(",{:.1},{:.1},{low:.3},{middle:.3},{high:.3}", each(&check[who]), each(or));
+        let n = arenas[who].len();
+        let ratio = |to: &[f64]| quarters(check[who].iter().zip(to).map(|(a, b)| a / b).collect());
+        let each = |list: &Vec<f64>| quarters(list.clone())[0] * n as f64; // other work on the machine only adds
+        print!("{kind},{nodes},{},{n},{},{:.1},{:.1}", ours.name, arenas[who][5], each(&check[who]), each(&or[who]));
+        for [low, middle, high] in [ratio(&or[who]), ratio(&check[0])] {
+            print!(",{low:.3},{middle:.3},{high:.3}");
+        }
+        println!();
+    }
+}
+
+// ---- single calls: rank, count and pair at a rank beside get
+
+const CALLS: [&str; 4] = ["get", "rank", "count", "at"];
+
+struct Calls<'a> {
+    ours: &'a Ours,
+    arena: Vec<u64>,
+    pairs: usize,
+    keys: Vec<u64>,
+}
+
+impl<'a> Calls<'a> {
+    fn new(ours: &'a Ours, pairs: usize, calls: usize) -> Self {
+        let keys = Keys::new(pairs);
+        let mut arena = ours.arena(keys.nodes(false));
+        ours.run(&mut arena, &orders(1, keys.present.iter().copied()));
+        let mut rand = Rand(pairs as u64 + 1);
+        let keys = (0..calls).map(|_| keys.present[rand.below(pairs)]).collect();
+        Calls { ours, arena, pairs, keys }
+    }
+
+    fn has(&self, call: &str) -> bool {
+        call == "get" || self.ours.ranks.is_some()
+    }
+
+    /// One call for each of the keys, which are present: a get; a rank; the count from the key, included, to the next one of
+    /// the list, excluded; the pair at a rank drawn from the key.
+    fn run(&self, call: &str) -> u64 {
+        let (a, n) = (self.arena.as_ptr(), self.arena.len() as u64);
+        let (mut second, mut third, mut sum) = (0, 0, 0u64);
+        let ranks = || self.ours.ranks.as_ref().expect("ranks");
+        let number = |number: u64, wanted: u64| assert_eq!(number, wanted);
+        match call {
+            "get" => self.keys.iter().for_each(|k| {
+                number(unsafe { (self.ours.get)(a, n, *k, &mut second) }, 1);
+                sum = sum.wrapping_add(second);
+            }),
+            "rank" => self.keys.iter().for_each(|k| {
+                number(unsafe { (ranks().rank)(a, n, *k, &mut second) }, 0);
+                sum = sum.wrapping_add(second);
+            }),
+            "count" => self.keys.iter().zip(self.keys.iter().cycle().skip(1)).for_each(|(k, l)| {
+                number(unsafe { (ranks().count)(a, n, 1, *k.min(l), 2, *k.max(l), &mut second) }, 0);
+                sum = sum.wrapping_add(second);
+            }),
+            _ => self.keys.iter().for_each(|k| {
+                number(unsafe { (ranks().at)(a, n, k % self.pairs as u64, &mut second, &mut third) }, 1);
+                sum = sum.wrapping_add(second);
+            }),
+        }
+        sum
+    }
+}
+
+/// The calls of a copy that does not check, timed; and as ratios to get's time in the same round.
+fn time_calls(ours: &Ours, pairs: usize, rounds: usize) {
+    let calls = Calls::new(ours, pairs, 10_000);
+    let mut time = vec![vec![]; CALLS.len()];
+    for round in 0..rounds {
+        for i in 0..CALLS.len() {
+            let which = (i + round) % CALLS.len();
+            time[which].push(spent(|| _ = black_box(calls.run(CALLS[which]))) / calls.keys.len() as f64);
+        }
+    }
+    for (which, call) in CALLS.iter().enumerate() {
+        let [low, middle, high] = quarters(time[which].iter().zip(&time[0]).map(|(a, b)| a / b).collect());
+        println!("{call},{pairs},{},{:.1},{low:.3},{middle:.3},{high:.3}", ours.name, median(time[which].clone()));
     }
 }
 
@@ -356,6 +450,18 @@ fn try_all(ours: &Ours) {
             assert_eq!((number, written, more), (0, wanted.len() as u64 / 2, 0));
             assert_eq!(out, wanted);
             listed += wanted.len() / 2;
+            if let Some(ranks) = &ours.ranks {
+                let a = arena.as_ptr();
+                let (mut second, mut third) = (7, 7);
+                let below = map.range(..from).count() as u64;
+                assert_eq!((unsafe { (ranks.rank)(a, len, from, &mut second) }, second), (0, below));
+                let number = unsafe { (ranks.count)(a, len, 1, from, 1, to, &mut second) };
+                assert_eq!((number, second), (0, wanted.len() as u64 / 2));
+                let at = rand.below(map.len() + 1);
+                let number = unsafe { (ranks.at)(a, len, at as u64, &mut second, &mut third) };
+                let wanted = map.iter().nth(at).map_or((2, 0, 0), |(k, v)| (1, *k, *v));
+                assert_eq!((number, second, third), wanted);
+            }
         }
     }
     println!("{}: {batches} orders in batches, {singles} alone, {listed} pairs listed: as BTreeMap", ours.name);
@@ -424,30 +530,66 @@ fn returns(ours: &Ours, nodes: usize) {
 fn main() {
     let args: Vec<String> = std::env::args().skip(1).collect();
     let words: Vec<&str> = args.iter().map(String::as_str).collect();
-    let numbers = |list: &str| -> Vec<usize> { list.split(',').map(|n| n.parse().expect("a number")).collect() };
+    fn names(list: &str) -> impl Iterator<Item = &str> {
+        list.split(',').filter(|name| !name.is_empty())
+    }
+    let numbers = |list: &str| -> Vec<usize> { names(list).map(|n| n.parse().expect("a number")).collect() };
     match words[..] {
         ["try", ..] => OURS.iter().for_each(try_all),
-        ["times", pairs, nodes, rounds, cases] => {
+        ["times", pairs, nodes, rounds, cases, calls] => {
             let rounds = rounds.parse().expect("a number");
             println!("case,pairs,who,ns,check,b1,b2,b3,a1,a2,a3,f1,f2,f3");
             for n in numbers(pairs) {
-                cases.split(',').for_each(|case| time_case(case, n, rounds));
+                names(cases).for_each(|case| time_case(case, n, rounds));
             }
-            println!("arena,nodes,who,words,pairs,check,or,r1,r2,r3");
+            println!("arena,nodes,who,words,pairs,check,or,r1,r2,r3,f1,f2,f3");
             for n in numbers(nodes) {
                 ["full", "grown", "free"].into_iter().for_each(|kind| time_check(kind, n, rounds));
             }
+            println!("call,pairs,who,ns,g1,g2,g3");
+            for n in numbers(calls) {
+                UNCHECKED.iter().for_each(|ours| time_calls(ours, n, rounds));
+            }
         }
-        ["one", kind @ ("full" | "grown" | "free"), nodes] => {
-            let arena = arena(kind, nodes.parse().expect("a number"));
-            OURS.iter().for_each(|o| collected(&format!("check {}", o.name), || (o.timed_check)(black_box(&arena))));
-            collected("run OR", || _ = black_box(timed_or(black_box(&arena))));
-            println!("{}", arena.len());
-        }
-        ["one", case, pairs] => {
-            let mut case = Case::new(case, pairs.parse().expect("a number"));
-            case.round(true);
-            println!("{}", case.ops);
+        // a line for each part of callgrind's file: its name, and how many orders, words or calls it is for
+        ["count", pairs, nodes, orders, cases, calls] => {
+            let most = orders.parse().expect("a number");
+            for n in numbers(pairs) {
+                for name in names(cases) {
+                    let mut case = Case::new(name, n, most);
+                    case.round(true);
+                    (0..ALL).for_each(|who| println!("case {name} {n} {},{}", name_of(who), case.ops));
+                }
+            }
+            for n in numbers(nodes) {
+                for kind in ["full", "grown", "free"] {
+                    for (who, ours) in OURS.iter().enumerate() {
+                        let arena = arena(ours, kind, n);
+                        let mut part = format!("arena {kind} {n} {}", ours.name);
+                        collected(&part, || (ours.timed_check)(black_box(&arena)));
+                        println!("{part},{}", arena.len());
+                        if who == OURS.len() - 1 {
+                            part = format!("arena {kind} {n} OR");
+                            collected(&part, || _ = black_box(timed_or(black_box(&arena))));
+                            println!("{part},{}", arena.len());
+                        }
+                    }
+                }
+            }
+            for n in numbers(calls) {
+                let all = OURS.iter().map(|o| (o, 24)).chain(UNCHECKED.iter().map(|o| (o, 2_000)));
+                for (ours, many) in all {
+                    let calls = Calls::new(ours, n, many);
+                    for call in CALLS.into_iter().filter(|c| calls.has(c)) {
+                        let part = format!("call {call} {n} {}", ours.name);
+                        collected(&part, || _ = black_box(calls.run(call)));
+                        println!("{part},{many}");
+                    }
+                    // one check, to be taken off as often as there were calls
+                    let check = || (ours.timed_check)(black_box(&calls.arena));
+                    collected(&format!("call each {n} {}", ours.name), check);
+                }
+            }
         }
         ["returns", nodes] => {
             match OURS[0].counted {

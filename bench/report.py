@@ -27,7 +27,7 @@ def tables(path):
     found = []
     for line in open(path):
         fields = line.strip().split(",")
-        if fields[0] in ("case", "arena", "capacity", "cost", "run"):
+        if fields[0] in ("case", "arena", "capacity", "cost", "run", "call"):
             found.append((fields, []))
         else:
             found[-1][1].append(dict(zip(found[-1][0], fields)))
@@ -121,7 +121,7 @@ def grid(rows, keys, cell, titles):
         by.setdefault(tuple(r[k] for k in keys), {})[r["who"]] = r
     for key, line in by.items():
         name = [NAMES.get(key[0], key[0]).replace(";", ","), number(key[1])]
-        yield "| " + " | ".join(name + [cell(line[w]) for w in who]) + " |"
+        yield "| " + " | ".join(name + [cell(line[w]) if w in line else "" for w in who]) + " |"
 
 
 def ratios(rows, keys, f, titles):
@@ -163,17 +163,34 @@ def native_tables(path):
             yield ""
             yield from ratios(rows, ("arena", "nodes"), "r", ["arena", "nodes"])
             yield ""
+            yield "The check, time a word / the first's:"
+            yield ""
+            yield from ratios(rows, ("arena", "nodes"), "f", ["arena", "nodes"])
+            yield ""
             yield "Microseconds, check and OR:"
             yield ""
             both = lambda r: f"{float(r['check']) / 1000:.2f}, {float(r['or']) / 1000:.2f}"
             yield from grid(rows, ("arena", "nodes"), both, ["arena", "nodes"])
+        elif "g2" in rows[0]:
+            yield "Nanoseconds a single call, in a copy that does not check:"
+            yield ""
+            yield from grid(rows, ("call", "pairs"), lambda r: r["ns"], ["call", "pairs"])
+            yield ""
+            yield "Time / get's:"
+            yield ""
+            yield from ratios(rows, ("call", "pairs"), "g", ["call", "pairs"])
+        elif "calls" in rows[0]:
+            each = lambda r: f"{int(r['instructions']) / int(r['calls']):.0f}, {int(r['missed']) / int(r['calls']):.2f}"
+            yield "Instructions and mispredictions a single call, without the check:"
+            yield ""
+            yield from grid(rows, ("call", "pairs"), each, ["call", "pairs"])
         elif "orders" in rows[0]:
             each = lambda r: f"{int(r['instructions']) / int(r['orders']):.0f}, {int(r['missed']) / int(r['orders']):.2f}"
             yield "Instructions and mispredictions an order, without the check:"
             yield ""
             yield from grid(rows, ("case", "pairs"), each, ["case", "pairs"])
         else:
-            each = lambda r: f"{int(r['instructions']) / int(r['words']):.2f}, {38 * int(r['missed']) / int(r['words']):.2f}"
+            each = lambda r: f"{int(r['instructions']) / int(r['words']):.2f}, {int(r['missed']) / int(r['nodes']):.2f}"
             yield "The check: instructions a word, and mispredictions a node:"
             yield ""
             yield from grid(rows, ("arena", "nodes"), each, ["arena", "nodes"])

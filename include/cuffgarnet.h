@@ -60,9 +60,9 @@ enum cuffgarnet_code {
     CUFFGARNET_RESERVE = 4
 };
 
-/* The sizes of an arena: 10 words and 39 a node, 1 to 65,535 nodes. Its first word is the format number. */
+/* The sizes of an arena: 10 words and 39 a node, 1 to 1,048,575 nodes. Its first word is the format number. */
 #define CUFFGARNET_FORMAT 2u
-#define CUFFGARNET_LARGEST 65535u
+#define CUFFGARNET_LARGEST 1048575u
 #define CUFFGARNET_WORDS(nodes) (10u + 39u * (size_t)(nodes))
 
 /* The same of format 1, which had no count of pairs in a node and 38 words. Only cuffgarnet_upgrade reads it. */
@@ -74,7 +74,7 @@ enum cuffgarnet_code {
 #define CUFFGARNET_WORD_SEEN 8  /* 1 if a key was ever put or reserved, else 0 */
 #define CUFFGARNET_WORD_MARK 9  /* the largest key ever put, reserved or restored; no call but format lowers it */
 
-/* Formats n words as an empty arena, and forgets the mark. 0; 7 if n is not 10 + 39 N for an N of 1 to 65,535. */
+/* Formats n words as an empty arena, and forgets the mark. 0; 7 if n is not 10 + 39 N for an N of 1 to 1,048,575. */
 uint64_t cuffgarnet_format(uint64_t *arena, uint64_t n);
 
 /* Whether the words are a well-formed arena: its structure, not its values. 0; 4 if not. Changes nothing. */

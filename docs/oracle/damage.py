@@ -6,7 +6,7 @@ not from the proved code: it collects the nodes that it reaches and the keys in 
 for the same arena, damaged in the same way, is compared with this list at each check.
 """
 NONE = 4294967295
-LARGEST = 65535
+LARGEST = 1048575
 WORDS = 39
 HEADER = 10
 

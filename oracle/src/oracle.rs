@@ -134,7 +134,7 @@ fn on_words(verb: &str, rest: &mut &[String]) {
     let mut text = String::new();
     std::io::stdin().read_to_string(&mut text).unwrap_or_else(|e| fail(&e.to_string()));
     let w: Vec<u64> = text.split_whitespace().map(|x| x.parse().unwrap_or_else(|_| fail(&format!("not a word: {x}")))).collect();
-    if w.len() < 2 || w[1] > 65_535 {
+    if w.len() < 2 || w[1] > 1_048_575 {
         fail("these words are no arena");
     }
     let (slab, other) = (Slab::new(w[1] as usize), Slab::beside(w[1] as usize));

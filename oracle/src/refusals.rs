@@ -33,8 +33,8 @@ pub fn all(totals: &mut Totals) -> Result<(), String> {
 /// Formatting at every small length; a batch and an image of every wrong one.
 fn sizes(totals: &mut Totals) -> Result<(), String> {
     // 48, 86 and 2,490,340 are format 1's; 1,492 is one of each
-    for long in (0..=200).chain([1492, 2_490_340, 2_555_874, 2_555_875, 2_555_876, 2_555_914]) {
-        let good = long >= 49 && (long - 10) % 39 == 0 && (long - 10) / 39 <= 65_535;
+    for long in (0..=200).chain([1492, 2_490_340, 2_555_875, 40_894_434, 40_894_435, 40_894_436, 40_894_474]) {
+        let good = long >= 49 && (long - 10) % 39 == 0 && (long - 10) / 39 <= 1_048_575;
         let mut w = vec![7; long];
         let number = ours::format(&mut w);
         let wanted = if good { words::formatted((long - 10) / 39) } else { vec![7; long] };

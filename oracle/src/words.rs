@@ -8,6 +8,8 @@ pub const OLD_WORDS: usize = 38;
 const FORMAT: u64 = 2;
 pub const NONE: u64 = 4_294_967_295;
 pub const MOST: usize = 11;
+/// Nodes of the largest arena.
+pub const LARGEST: usize = 1_048_575;
 
 pub const ROOT: usize = 3;
 pub const HEIGHT: usize = 4;
@@ -66,7 +68,7 @@ pub fn write_header(w: &mut [u64], count: usize, root: u64, height: u64, pairs: 
 /// Format, number of nodes, offset and length are those of an arena whose nodes have so many words.
 fn is_headed(w: &[u64], words: usize) -> bool {
     let format = if words == WORDS { FORMAT } else { 1 };
-    w.len() > HEADER && w[0] == format && w[2] == HEADER as u64 && (1..=65_535).contains(&w[1]) && w.len() == HEADER + words * w[1] as usize
+    w.len() > HEADER && w[0] == format && w[2] == HEADER as u64 && (1..=LARGEST as u64).contains(&w[1]) && w.len() == HEADER + words * w[1] as usize
 }
 
 /// The free chain of an arena's words, which must rise.

@@ -118,15 +118,15 @@ impl Words for &mut [u64] {
     }
 }
 
-/// How many words an arena of so many nodes has; `None` if there is no such arena (nodes are 1 to 65,535).
+/// How many words an arena of so many nodes has; `None` if there is no such arena (nodes are 1 to 1,048,575).
 ///
 /// ```
 /// assert_eq!(cuffgarnet::words_for(2), Some(88));
 /// assert_eq!(cuffgarnet::words_for(0), None);
-/// assert_eq!(cuffgarnet::words_for(65_536), None);
+/// assert_eq!(cuffgarnet::words_for(1_048_576), None);
 /// ```
 pub fn words_for(nodes: usize) -> Option<usize> {
-    if nodes == 0 || nodes > 65_535 {
+    if nodes == 0 || nodes > 1_048_575 {
         return None;
     }
     nodes.checked_mul(NODE)?.checked_add(HEADER)
@@ -139,7 +139,7 @@ pub struct Index<W: Words = Vec<u64>> {
 }
 
 impl Index {
-    /// An empty index with so many nodes, 1 to 65,535, in words of its own. A node holds up to 11 pairs, and at least 5
+    /// An empty index with so many nodes, 1 to 1,048,575, in words of its own. A node holds up to 11 pairs, and at least 5
     /// but for the root.
     ///
     /// # Errors
@@ -179,7 +179,7 @@ impl<W: Words> Index<W> {
     /// mark first.
     ///
     /// # Errors
-    /// [`Error::BadSize`] if their number is not 10 + 39 N for an N of 1 to 65,535. No word has changed then.
+    /// [`Error::BadSize`] if their number is not 10 + 39 N for an N of 1 to 1,048,575. No word has changed then.
     ///
     /// ```
     /// use cuffgarnet::{Error, Index};

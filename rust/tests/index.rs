@@ -139,11 +139,11 @@ fn sizes() {
         assert!(words.iter().all(|w| *w == 3));
         assert_eq!(Index::open(&mut words[..]).err(), Some(Error::BadArena));
     }
-    assert_eq!(words_for(65_535), Some(2_555_875));
+    assert_eq!(words_for(1_048_575), Some(40_894_435));
     assert_eq!(Index::with_nodes(usize::MAX).err(), Some(Error::BadSize));
-    assert_eq!(Index::with_nodes(65_536).err(), Some(Error::BadSize));
-    let largest = Index::with_nodes(65_535).unwrap();
-    assert_eq!(largest.free_nodes(), Ok(65_534));
+    assert_eq!(Index::with_nodes(1_048_576).err(), Some(Error::BadSize));
+    let large = Index::with_nodes(65_536).unwrap();
+    assert_eq!(large.free_nodes(), Ok(65_535));
 }
 
 #[test]

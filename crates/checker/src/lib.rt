@@ -46,9 +46,9 @@ ghost use Rattle.checker.specs.Walks.{Said, Counted, CountedBy, keyTask,
 ghost use Rattle.checker.specs.Whole.{HeadingBy, tree, start, FinishedBy};
 
 // No well-formed tree is higher: so many nodes do not fit.
-const HIGHEST: u64 = 6;
+const HIGHEST: u64 = 8;
 
-const LARGEST: u64 = 65_535;
+const LARGEST: u64 = 1_048_575;
 
 // What is left to be met, nodes and pairs, and the last key. It falls, so that hostile words cost no more than the nodes there are.
 pub struct Walk {

@@ -27,7 +27,7 @@ ghost use Rattle.model.specs.Public as promise;
 ghost use Rattle.format.specs.Formatting.{Counted, chainAfter, emptyNode, freeNodes};
 
 // The most nodes.
-const LARGEST: usize = 65_535;
+const LARGEST: usize = 1_048_575;
 
 // How many nodes a slice of so many words is an arena of; 0 if of none.
 fn node_count(long: usize) -> usize

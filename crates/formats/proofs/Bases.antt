@@ -7,7 +7,7 @@ use lib.ListN.{length}
 use mathlib.Core.Path.{_≡_, refl}
 use Rattle.model.specs.declared.Layout.{Layout}
 use Rattle.model.specs.declared.Layout.the-variants.{Format1, Format2}
-use Rattle.model.specs.Layout.{baseBy, nodeSizeBy, totalWord, SizedBy}
+use Rattle.model.specs.Layout.{baseBy, nodeSizeBy, totalWord, largestCount, SizedBy}
 
 pub base-1 : (f : Layout) (n : ℕ) → f ≡ Format1 → baseBy f n ≡ 10 + 38 * n
 base-1 f n e = rw e refl
@@ -23,6 +23,6 @@ pub sized-within : (f : Layout) (count n : ℕ) (w : List ℕ) → SizedBy f cou
 sized-within Format1 count n w s l = omega (arith, s .long-is)
 sized-within Format2 count n w s l = omega (arith, s .long-is)
 
-pub base-small : (f : Layout) (n : ℕ) → n ≤ 65535 → baseBy f n < 18446744073709551616
+pub base-small : (f : Layout) (n : ℕ) → n ≤ largestCount → baseBy f n < 18446744073709551616
 base-small Format1 n l = omega arith
 base-small Format2 n l = omega arith
