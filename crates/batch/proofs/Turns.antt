@@ -7,14 +7,13 @@ use mathlib.Core.Path.{_≡_, refl, sym, ap, ap₂, _∙_, subst}
 use mathlib.Core.Logic.{inl, inr}
 use mathlib.Core.Bool.{Bool, true, false}
 use mathlib.Core.List.{List, [], _∷_, _++_, append-assoc, append-nil}
-use lib.Dec.{eqb}
 use lib.Seq.{set-at, drop-cons}
 use lib.ListN.{length, getD, drop, set, length-append}
-use borrow.Author.Tests.{eq-eqb, ne-eqb}
+use borrow.Author.Tests.{ne-eqb}
 use Rattle.model.specs.declared.Answer.{Answer}
 use Rattle.model.specs.declared.Answer.the-variants.{Done, BadOrder}
 use Rattle.model.specs.Answer.{Numbers, numbersOf}
-use Rattle.model.specs.State.{State, Reply, Order, order, put, get, delete, reserve, putCode, getCode, deleteCode, reserveCode, triples, afterAll, answers}
+use Rattle.model.specs.State.{State, Reply, Order, kindOf, orderAs, order, putCode, getCode, deleteCode, reserveCode, triples, afterAll, answers}
 use Rattle.model.specs.Words.{wordsOf}
 use Rattle.model.specs.Promise.{Holds, Fits, Does}
 use Rattle.model.proofs.Calls.{order-sound}
@@ -24,23 +23,11 @@ use Rattle.batch.specs.Orders.{orderOf, Ran}
 -- ---- an order by its code
 
 module _ (c k v : ℕ) (s : State) where
-  pub order-put : c ≡ putCode → order (orderOf c k v) s ≡ put k v s
-  order-put e = rw (eq-eqb c putCode e, order)
+  pub order-by : (d : ℕ) → c ≡ d → order (orderOf c k v) s ≡ orderAs (kindOf d) k v s
+  order-by d e = ap (λ x. order (orderOf x k v) s) e
 
-  module _ (n : c ≡ putCode → ⊥) where
-    pub order-get : c ≡ getCode → order (orderOf c k v) s ≡ get k s
-    order-get e = rw (ne-eqb c putCode n, eq-eqb c getCode e, order)
-
-    module _ (m : c ≡ getCode → ⊥) where
-      pub order-delete : c ≡ deleteCode → order (orderOf c k v) s ≡ delete k s
-      order-delete e = rw (ne-eqb c putCode n, ne-eqb c getCode m, eq-eqb c deleteCode e, order)
-
-      module _ (l : c ≡ deleteCode → ⊥) where
-        pub order-reserve : c ≡ reserveCode → order (orderOf c k v) s ≡ reserve k s
-        order-reserve e = rw (ne-eqb c putCode n, ne-eqb c getCode m, ne-eqb c deleteCode l, eq-eqb c reserveCode e, order)
-
-        pub order-bad : (c ≡ reserveCode → ⊥) → order (orderOf c k v) s ≡ record { answer = BadOrder; state = s }
-        order-bad j = rw (ne-eqb c putCode n, ne-eqb c getCode m, ne-eqb c deleteCode l, ne-eqb c reserveCode j, order)
+  pub order-bad : (c ≡ putCode → ⊥) → (c ≡ getCode → ⊥) → (c ≡ deleteCode → ⊥) → (c ≡ reserveCode → ⊥) → order (orderOf c k v) s ≡ record { answer = BadOrder; state = s }
+  order-bad n m l j = rw (ne-eqb c putCode n, ne-eqb c getCode m, ne-eqb c deleteCode l, ne-eqb c reserveCode j)
 
 -- ---- in turn
 

@@ -9,7 +9,7 @@ use mathlib.Core.List.{List, [], _∷_}
 use mathlib.Core.Option.{Option, some, none}
 use lib.Dec.{lit<, ltb}
 use lib.ListN.{length, take, length-take}
-use borrow.Author.Tests.{eq-eqb, ne-eqb, lt-leb}
+use borrow.Author.Tests.{lt-leb}
 use Rattle.model.specs.declared.Answer.{Answer}
 use Rattle.model.specs.declared.Answer.the-variants.{Done, NoRoom}
 use Rattle.model.specs.declared.Range.{Range}
@@ -24,14 +24,14 @@ use Rattle.model.specs.Mark.{unseen, higher, reached, storedMark}
 use Rattle.model.specs.Map.{look, range, rank as rankOf, nth, picked}
 use Rattle.model.specs.Answer.{numbersOf}
 use Rattle.model.specs.State as on
-use Rattle.model.specs.State.{State, Reply, Order, list, putAt, putCode, deleteCode, triples}
+use Rattle.model.specs.State.{State, Reply, Order, Kind, putting, getting, deleting, reserving, unknown, kindOf, orderAs, list, putAt, putCode, triples}
 use Rattle.model.specs.Words.{wordsOf}
 use Rattle.model.specs.Sound.{Sound}
 use Rattle.model.specs.Promise as model
 use Rattle.model.specs.Promise.{Holds, badArena, badRangeOf, room, laid, Called, Formatted, Ran, Restored, Upgraded}
 use Rattle.model.proofs.Lists.{same-or}
 use Rattle.model.proofs.Maps.{bad-panics, panics-bad}
-use Rattle.model.proofs.Calls.{get-map, Reached, Reserved, reserve-map, order-cases, NoneLeft, order-sound, batch-sound, formatted-sound, restored-sound}
+use Rattle.model.proofs.Calls.{get-map, Reached, Reserved, reserve-map, NoneLeft, order-sound, batch-sound, formatted-sound, restored-sound}
 use Rattle.model.proofs.Backward.{one-state, backward}
 use Rattle.model.proofs.Unique.{one-format, one-listing, one-tell, one-at, one-batch, one-restore}
 use Rattle.model.proofs.Upgrades.{one-upgrade}
@@ -39,7 +39,7 @@ use Rattle.demands.specs.Plain.{Plain, only, ordered, orderedAll, putTo,
 use Rattle.demands.specs.Stored.{stored, held}
 use Rattle.demands.specs.Call.{refusal, Call, made, ByMap, Refused, Did}
 use Rattle.demands.specs.Calls as call
-use Rattle.demands.specs.Calls.{Lacks, reads, InTurn}
+use Rattle.demands.specs.Calls.{Lacks, still, InTurn}
 use Rattle.model.proofs.Header.{stored-mark, header-is}
 use Rattle.demands.proofs.Reading.{plainOf, stored-is, held-is}
 use Rattle.demands.proofs.Orders.{with-room}
@@ -94,14 +94,14 @@ module _ (o : Order) {w : List ℕ} {s : State} (h : Holds w s) where
   }
 
   -- and a put that lacks nodes is refused
-  lacking : o .code ≡ putCode → Lacks (o .key) w → (on.order o s) .answer ≡ NoRoom
+  lacking : kindOf (o .code) ≡ putting → Lacks (o .key) w → (on.order o s) .answer ≡ NoRoom
   lacking c l =
       let f : length (s .free) < needed (l .edge) = omega (arith, l .lacks, header-is h freeWord (lit< tt)) in
       let e = one-state (l .holds) h in
-      rw (eq-eqb (o .code) putCode c, on.order) (ap (λ p. (putAt (o .key) (o .val) s p) .answer) (ap (λ (t : State). search (o .key) (t .whole)) (sym e) ∙ l .found) ∙ rw (lt-leb (needed (l .edge)) (length (s .free)) f, putAt))
+      ap (λ x. (orderAs x (o .key) (o .val) s) .answer) c ∙ (ap (λ p. (putAt (o .key) (o .val) s p) .answer) (ap (λ (t : State). search (o .key) (t .whole)) (sym e) ∙ l .found) ∙ rw (lt-leb (needed (l .edge)) (length (s .free)) f, putAt))
 
   -- with room it is not
-  not-lacking : Meets s (on.order o s) (ordered true o (plainOf s)) → o .code ≡ putCode → Lacks (o .key) w → ⊥
+  not-lacking : Meets s (on.order o s) (ordered true o (plainOf s)) → kindOf (o .code) ≡ putting → Lacks (o .key) w → ⊥
   not-lacking m c l = both-ways (with-room o (plainOf s)) (ap (λ a. roomBy ((numbersOf a) .number)) (sym (m .answered) ∙ lacking c l))
 
 module _ (k v : ℕ) where
@@ -120,11 +120,18 @@ module _ (k v : ℕ) where
 
 module _ (o : Order) where
   -- an order that only reads leaves the state
-  reads-still : (s : State) → Sound s → reads o → (on.order o s) .state ≡ s
-  reads-still s u n = order-cases o s (λ d. d .state ≡ s) (λ e. absurd (n .0 e)) (λ e. ap (λ (d : Reply). d .state) (get-map (o .key) s u)) (λ e. absurd (n .1 e)) (λ e. absurd (n .2 e)) (λ a b c d. refl)
+  reads-still : (s : State) → Sound s → still (kindOf (o .code)) ≡ true → (on.order o s) .state ≡ s
+  reads-still s u = by (kindOf (o .code))
+    where
+      by : (x : Kind) → still x ≡ true → (orderAs x (o .key) (o .val) s) .state ≡ s
+      by putting n = both-ways n refl
+      by getting n = ap (λ (d : Reply). d .state) (get-map (o .key) s u)
+      by deleting n = both-ways n refl
+      by reserving n = both-ways n refl
+      by unknown n = refl
 
   pub order-lawful : Lawful (call.order o)
-  order-lawful = state-lawful (on.order o) (λ w. call.noRoomFor o w ∷ []) (ordered true o) (λ w w′. reads o → w′ ≡ w)
+  order-lawful = state-lawful (on.order o) (λ w. call.noRoomFor o w ∷ []) (ordered true o) (λ w w′. still (kindOf (o .code)) ≡ true → w′ ≡ w)
       (λ w w′ r x.
       let s = x .state in
       let u = x .holds .sound in

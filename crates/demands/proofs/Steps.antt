@@ -16,15 +16,15 @@ use Rattle.model.specs.Insert.{needed}
 use Rattle.model.specs.Map.{look, got, replaced}
 use Rattle.model.specs.Mark.{seen, reached}
 use Rattle.model.specs.Answer.{numbersOf}
-use Rattle.model.specs.State.{State, Reply, Order, list, get, putAt, put, deleteAt, delete, reserve, putCode, getCode, deleteCode, reserveCode, order, afterAll, answers}
+use Rattle.model.specs.State.{State, Reply, Order, list, get, putAt, put, deleteAt, delete, reserve, Kind, putting, getting, deleting, reserving, unknown, kindOf, orderAs, order, afterAll, answers}
 use Rattle.model.specs.Sound.{Sound}
 use Rattle.model.proofs.Descent.{Sought, search-right}
-use Rattle.model.proofs.Calls.{look-gap, get-map, NoneLeft, Put, put-map, delete-map, Reached, Reserved, reserve-map, order-cases, order-sound}
-use Rattle.demands.specs.Plain.{Plain, reserved, Made, only, isNone, putTo, getFrom, deleteFrom, reserveOn, ordered, orderedAll, roomBy, roomsBy}
+use Rattle.model.proofs.Calls.{look-gap, get-map, NoneLeft, Put, put-map, delete-map, Reached, Reserved, reserve-map, order-sound}
+use Rattle.demands.specs.Plain.{Plain, reserved, Made, only, isNone, putTo, getFrom, deleteFrom, reserveOn, orderedAs, ordered, orderedAll, roomBy, roomsBy}
 use Rattle.demands.specs.Call.{refusal}
 use Rattle.demands.specs.Calls.{OrderRefusal}
 use Rattle.demands.proofs.Reading.{plainOf}
-use Rattle.demands.proofs.Orders.{ordered-put, ordered-get, ordered-delete, ordered-reserve, ordered-other, ordered-cases, with-room, put-none}
+use Rattle.demands.proofs.Orders.{with-room, put-none}
 use Rattle.model.proofs.Ends.{both-ways}
 
 -- a reply on the state s is what is made of the plain list; refused, it left the state
@@ -106,20 +106,22 @@ module _ (k : ℕ) (s : State) (o : Sound s) where
 
 -- a put that lacks nodes
 pub record NoneFor (r : Order) (s : State) (d : Reply) : Type 0 where
-  pub a-put : r .code ≡ putCode
+  pub a-put : kindOf (r .code) ≡ putting
   pub none-left : NoneLeft (r .key) s d
 
 module _ (r : Order) (s : State) (o : Sound s) where
   pub order-meets : NoneFor r s (order r s) ⊎ Meets s (order r s) (ordered true r (plainOf s))
-  order-meets = order-cases r s (λ d. NoneFor r s d ⊎ Meets s d (ordered true r (plainOf s)))
-      (λ e. ⊎-elim
-      (λ (n : NoneLeft (r .key) s (put (r .key) (r .val) s)). inl (record { a-put = e; none-left = n }))
-      (λ (m : Meets s (put (r .key) (r .val) s) (putTo true (r .key) (r .val) (plainOf s))). inr (rw (ordered-put true r (plainOf s) e) m))
-      (put-meets (r .key) s o (r .val)))
-      (λ e. inr (rw (ordered-get true r (plainOf s) e) (get-meets (r .key) s o)))
-      (λ e. inr (rw (ordered-delete true r (plainOf s) e) (delete-meets (r .key) s o)))
-      (λ e. inr (rw (ordered-reserve true r (plainOf s) e) (reserve-meets (r .key) s o)))
-      (λ a b c d. inr (rw (ordered-other true r (plainOf s) a b c d) (record { answered = refl; plain-is = refl; sound = o; size-is = refl; still = λ e. refl })))
+  order-meets = by (kindOf (r .code)) refl
+    where
+      by : (x : Kind) → kindOf (r .code) ≡ x → NoneFor r s (orderAs x (r .key) (r .val) s) ⊎ Meets s (orderAs x (r .key) (r .val) s) (orderedAs true x (r .key) (r .val) (plainOf s))
+      by putting e = ⊎-elim
+          (λ (n : NoneLeft (r .key) s (put (r .key) (r .val) s)). inl (record { a-put = e; none-left = n }))
+          (λ (m : Meets s (put (r .key) (r .val) s) (putTo true (r .key) (r .val) (plainOf s))). inr m)
+          (put-meets (r .key) s o (r .val))
+      by getting e = inr (get-meets (r .key) s o)
+      by deleting e = inr (delete-meets (r .key) s o)
+      by reserving e = inr (reserve-meets (r .key) s o)
+      by unknown e = inr (record { answered = refl; plain-is = refl; sound = o; size-is = refl; still = λ e. refl })
 
 -- what an order answers tells whether it found room: so much, and the list, tell the answer and the next list
 pub record Told (s : State) (d : Reply) (m : Made Answer) : Type 0 where
@@ -133,7 +135,7 @@ order-told r s o = ⊎-elim lacking done (order-meets r s o)
     Goal b d = Told s d (ordered b r (plainOf s))
 
     none-made : NoneFor r s (order r s) → ordered false r (plainOf s) ≡ only NoRoom (plainOf s)
-    none-made n = ordered-put false r (plainOf s) (n .a-put) ∙ put-none (r .key) (r .val) (plainOf s) (none-there (r .key) s o (n .none-left))
+    none-made n = ap (λ x. orderedAs false x (r .key) (r .val) (plainOf s)) (n .a-put) ∙ put-none (r .key) (r .val) (plainOf s) (none-there (r .key) s o (n .none-left))
 
     lacking : NoneFor r s (order r s) → Goal (roomBy ((numbersOf ((order r s) .answer)) .number)) (order r s)
     lacking n = rw (n .none-left .refused) (rw (none-made n) (record { answered = refl; plain-is = refl }))
@@ -148,13 +150,21 @@ abbrev Refuses : Answer → Type 0
 Refuses a = refusal a ≡ true → OrderRefusal a
 
 ordered-refuses : (b : Bool) (r : Order) (p : Plain) → Refuses ((ordered b r p) .said)
-ordered-refuses b r p =
-    let x = look (r .key) (p .pairs) in
-    ordered-cases b r p (λ m. Refuses (m .said)) (by (not b && isNone x) NoRoom (putTo true (r .key) (r .val) p) (inl refl) (replaced-done x)) (λ e. both-ways e (got-done x)) (λ e. both-ways e (got-done x)) (by (reached (r .key) (p .mark)) spentAnswer (record { said = Done; plain = record { pairs = p .pairs; mark = seen (r .key) }; spent = reserved (r .key) ∷ [] }) (inr (inr refl)) refl) (λ e. inr (inl refl))
+ordered-refuses b r p = go (kindOf (r .code))
   where
     by : (c : Bool) (a : Answer) (m : Made Answer) → OrderRefusal a → refusal (m .said) ≡ false → Refuses ((cond c (only a p) m) .said)
     by true a m o f e = o
     by false a m o f e = both-ways e f
+
+    there : Option ℕ
+    there = look (r .key) (p .pairs)
+
+    go : (x : Kind) → Refuses ((orderedAs b x (r .key) (r .val) p) .said)
+    go putting = by (not b && isNone there) NoRoom (putTo true (r .key) (r .val) p) (inl refl) (replaced-done there)
+    go getting = λ e. both-ways e (got-done there)
+    go deleting = λ e. both-ways e (got-done there)
+    go reserving = by (reached (r .key) (p .mark)) spentAnswer (record { said = Done; plain = record { pairs = p .pairs; mark = seen (r .key) }; spent = reserved (r .key) ∷ [] }) (inr (inr refl)) refl
+    go unknown = λ e. inr (inl refl)
 
 pub order-refuses : (r : Order) (s : State) → Sound s → Refuses ((order r s) .answer)
 order-refuses r s o = subst Refuses (sym ((order-told r s o) .answered)) (ordered-refuses (roomBy ((numbersOf ((order r s) .answer)) .number)) r (plainOf s))

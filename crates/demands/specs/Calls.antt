@@ -19,7 +19,7 @@ use Rattle.model.specs.Insert.{needed}
 use Rattle.model.specs.Mark.{higher, reached, storedMark}
 use Rattle.model.specs.Map.{look, range, rank as rankOf, nth, picked, Panics}
 use Rattle.model.specs.Answer.{numbersOf}
-use Rattle.model.specs.State.{State, Order, putCode, deleteCode, reserveCode, triples}
+use Rattle.model.specs.State.{State, Order, Kind, putting, getting, deleting, reserving, unknown, kindOf, triples}
 use Rattle.model.specs.WellFormed.{WellFormed}
 use Rattle.model.specs.Promise.{Refusal, badSize, badArenaBy, badArena, badImage, older, AnyCount, Holds, Fits, room, laid}
 use Rattle.model.specs.Public as promise
@@ -47,7 +47,7 @@ abbrev pub noRoom : ℕ → List ℕ → Refusal
 noRoom k w = record { answer = NoRoom; when = Lacks k w }
 
 abbrev pub noRoomFor : Order → List ℕ → Refusal
-noRoomFor o w = record { answer = NoRoom; when = (o .code ≡ putCode) × Lacks (o .key) w }
+noRoomFor o w = record { answer = NoRoom; when = (kindOf (o .code) ≡ putting) × Lacks (o .key) w }
 
 -- the mark has reached the key
 abbrev pub spent : ℕ → List ℕ → Refusal
@@ -125,9 +125,13 @@ reserve k = record {
 
 -- ---- a single order: the call of its code; any other code is refused
 
--- the codes of orders that only read, and unknown ones
-abbrev pub reads : Order → Type 0
-reads o = (o .code ≡ putCode → ⊥) × (o .code ≡ deleteCode → ⊥) × (o .code ≡ reserveCode → ⊥)
+-- it changes nothing: it only reads, or its code is unknown
+abbrev pub still : Kind → Bool
+still putting = false
+still getting = true
+still deleting = false
+still reserving = false
+still unknown = true
 
 abbrev pub order : Order → Call
 order o = record {
@@ -136,7 +140,7 @@ order o = record {
   refusals = λ w. badArena w ∷ noRoomFor o w ∷ [];
   rooms = λ r l. [];
   does = λ rooms p. ordered true o p;
-  leaves = λ w w′ l. reads o → w′ ≡ w;
+  leaves = λ w w′ l. still (kindOf (o .code)) ≡ true → w′ ≡ w;
   begins = false;
 }
 
