@@ -9,7 +9,7 @@
  *     length 0 may have any pointer, NULL too;
  *   - words that a call writes overlap no other words lent to the same call, and nobody else touches them meanwhile.
  *
- * Every call but cuffgarnet_format first checks the whole arena, which costs a few passes over its words (docs/SPEED.md);
+ * Every call but cuffgarnet_format and cuffgarnet_load first checks the whole arena, which costs a few passes over its words (docs/SPEED.md);
  * cuffgarnet_batch does so once for all its orders. The check refuses broken structure. It is no checksum: a flipped bit in a
  * value, a key moved between its neighbours, or a mark lowered to a number that no key present exceeds, is believed. A lost or
  * torn arena can only be formatted, which forgets the mark. And nothing is proved of a call that is killed before it ends.
@@ -27,17 +27,18 @@ extern "C" {
 
 /* The numbers that calls return, and that a batch writes for each order. From 3 on they are refusals: no lent word has
  * changed, but for the words of the answer (`second` and the like), which are written at every call and are then 0. Where several
- * would fit, the first of 7, 4, 8, 12, 5, 6, 3 or 11 is given; only cuffgarnet_upgrade has 7 behind 4. */
+ * would fit, the first of 7, 4, 8, 12, 5, 6, 10, 3 or 11 is given; only cuffgarnet_upgrade has 7 behind 4. */
 enum cuffgarnet_answer {
-    CUFFGARNET_DONE = 0,      /* put a new key; reserved; formatted; checked; listed; counted; restored; upgraded; batch run */
+    CUFFGARNET_DONE = 0,      /* put a new key; reserved; formatted; loaded; checked; listed; counted; restored; upgraded; batch run */
     CUFFGARNET_VALUE = 1,     /* get: found; put: replaced; delete: removed; the second word is the (former) value. at: there */
     CUFFGARNET_ABSENT = 2,    /* get or delete: no such key; at: no pair at that rank */
-    CUFFGARNET_NO_ROOM = 3,   /* put of an absent key lacks nodes */
+    CUFFGARNET_NO_ROOM = 3,   /* put of an absent key, or a load, lacks nodes */
     CUFFGARNET_BAD_ARENA = 4, /* the words are not a well-formed arena of format 2 (docs/RULES.md); of format 1, in upgrade */
     CUFFGARNET_BAD_RANGE = 5, /* start above end; or equal and both excluded; or a kind of bound that is none */
     CUFFGARNET_BAD_ORDER = 6, /* an order's code is not 1, 2, 3 or 4 */
-    CUFFGARNET_BAD_SIZE = 7,  /* a length that cannot be: see format, batch, restore and upgrade */
+    CUFFGARNET_BAD_SIZE = 7,  /* a length that cannot be: see format, load, batch, restore and upgrade */
     CUFFGARNET_BAD_IMAGE = 8, /* the image is not a well-formed arena */
+    CUFFGARNET_NOT_RISING = 10, /* the keys of a run that was to be loaded do not rise strictly */
     CUFFGARNET_SPENT = 11,    /* reserve of a key that is not above the mark */
     CUFFGARNET_OLDER = 12     /* restore of an image with a lower mark, without the word that an older one is meant */
 };
@@ -68,11 +69,18 @@ enum cuffgarnet_code {
 /* The same of format 1, which had no count of pairs in a node and 38 words. Only cuffgarnet_upgrade reads it. */
 #define CUFFGARNET_WORDS_FORMAT_1(nodes) (10u + 38u * (size_t)(nodes))
 
+/* How many nodes a load of so many pairs takes. No tree of so many pairs has fewer. */
+static inline uint64_t cuffgarnet_nodes_for(uint64_t pairs) {
+    uint64_t nodes = pairs / 12 + 1;
+    while ((pairs /= 12) > 0) nodes += pairs / 12 + 1;
+    return nodes;
+}
+
 /* Words of the header that a program may read once a check has passed. */
 #define CUFFGARNET_WORD_PAIRS 5 /* how many pairs there are */
 #define CUFFGARNET_WORD_FREE 7  /* how many nodes are free */
 #define CUFFGARNET_WORD_SEEN 8  /* 1 if a key was ever put or reserved, else 0 */
-#define CUFFGARNET_WORD_MARK 9  /* the largest key ever put, reserved or restored; no call but format lowers it */
+#define CUFFGARNET_WORD_MARK 9  /* the largest key ever put, loaded, reserved or restored; only format, load and upgrade forget it */
 
 /* Formats n words as an empty arena, and forgets the mark. 0; 7 if n is not 10 + 39 N for an N of 1 to 1,048,575. */
 uint64_t cuffgarnet_format(uint64_t *arena, uint64_t n);
@@ -133,6 +141,12 @@ uint64_t cuffgarnet_restore(uint64_t *arena, uint64_t n, const uint64_t *image, 
  * the source is not a well-formed arena of format 1 (one of format 2 is none, and one whose free chain does not rise neither); then 7
  * if the target has not 10 + 39 N words for the source's N. No other call takes format 1: they answer 4, or 8 to it as an image. */
 uint64_t cuffgarnet_upgrade(const uint64_t *source, uint64_t source_n, uint64_t *target, uint64_t target_n);
+
+/* Loads a run of pairs that are in order already, key then value, into n words that it formats first; whatever the words held, a mark
+ * too, is forgotten. The nodes are filled from the left, each to its 11 pairs; the mark is the last key, and there is none if the run is
+ * empty. 0; 7 if run_n is odd, or n is not 10 + 39 N for an N of 1 to 1,048,575; then 10 if the keys do not rise strictly; then 3 if N
+ * is less than cuffgarnet_nodes_for(run_n / 2). The run does not change. */
+uint64_t cuffgarnet_load(uint64_t *arena, uint64_t n, const uint64_t *run, uint64_t run_n);
 
 #ifdef __cplusplus
 }

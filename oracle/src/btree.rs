@@ -72,6 +72,13 @@ impl<'s> Map<'s> {
         Map { root: None, length: 0, slab }
     }
 
+    /// An empty leaf, then bulk_push.
+    pub fn load(slab: &'s Slab, pairs: &[(u64, u64)]) -> Map<'s> {
+        let (mut root, mut length) = (Root::new(slab.alloc()), 0);
+        root.bulk_push(pairs.iter().copied(), &mut length, slab.alloc());
+        Map { root: Some(root), length, slab }
+    }
+
     pub fn is_rootless(&self) -> bool {
         self.root.is_none()
     }

@@ -37,6 +37,7 @@ const USAGE: &str = "usage:
                                 on the arena whose words stand on standard input: the answer to standard error, the words after it to
                                 standard output
   oracle fix-right | fix-left   the same, border repair: the words after it
+  oracle load N                 a run on standard input, key and value in turn: the words of N nodes after bulk_push
   oracle get K | list START END | fork START END
                                 the same, the answer to standard output
   oracle sample                 the records that crates/replay is run on
@@ -160,6 +161,17 @@ fn on_words(verb: &str, rest: &mut &[String]) {
     print_words(&rust.words());
 }
 
+/// The run on standard input, by bulk_push.
+fn load(count: usize) {
+    let mut text = String::new();
+    std::io::stdin().read_to_string(&mut text).unwrap_or_else(|e| fail(&e.to_string()));
+    let run: Vec<u64> = text.split_whitespace().map(|x| x.parse().unwrap_or_else(|_| fail(&format!("not a word: {x}")))).collect();
+    let pairs: Vec<(u64, u64)> = run.chunks_exact(2).map(|p| (p[0], p[1])).collect();
+    let slab = Slab::new(count);
+    let last = pairs.last().map(|p| p.0);
+    print_words(&Map::load(&slab, &pairs).words(u64::from(last.is_some()), last.unwrap_or(0)));
+}
+
 fn main() {
     // a range that panics is an answer here; anything else that does ends the run
     let usual = std::panic::take_hook();
@@ -173,6 +185,7 @@ fn main() {
     let rest = &mut &rest[..];
     match verb.as_str() {
         "ask" => ask(number(rest) as usize),
+        "load" => load(number(rest) as usize),
         "sample" => {
             let bytes: Vec<u8> = replay::sample().as_flattened().iter().flat_map(|w| w.to_le_bytes()).collect();
             std::io::stdout().write_all(&bytes).unwrap_or_else(|e| fail(&e.to_string()));

@@ -30,10 +30,12 @@ pub enum Fault {
     Itself,
     /// After an order the root's count is one too many: the words are no arena.
     Count,
+    /// The mark of a load is its first key.
+    First,
 }
 
 impl Fault {
-    pub const NAMES: [&str; 9] = ["value", "kept", "chain", "halves", "more", "twice", "meant", "itself", "count"];
+    pub const NAMES: [&str; 10] = ["value", "kept", "chain", "halves", "more", "twice", "meant", "itself", "count", "first"];
 
     pub fn named(name: &str) -> Option<Fault> {
         Some(match name {
@@ -46,6 +48,7 @@ impl Fault {
             "meant" => Fault::Meant,
             "itself" => Fault::Itself,
             "count" => Fault::Count,
+            "first" => Fault::First,
             _ => return None,
         })
     }
@@ -86,6 +89,10 @@ pub struct Totals {
     /// Ranks, counts and pairs at a rank, held against the plain list of the Rust's pairs; upgrades of format 1.
     pub ranks: u64,
     pub upgrades: u64,
+    /// Loads held against bulk_push, and their pairs; and how many were refused.
+    pub loads: u64,
+    pub loaded: u64,
+    pub not_loaded: u64,
     /// Border repairs, forks and steps along pairs, where they can be called.
     pub borders: u64,
     pub forks: u64,
@@ -126,6 +133,7 @@ impl fmt::Display for Totals {
         writeln!(f, "lengths and damaged arenas asked {}, of them no arenas {}", self.refusals, self.refused_arenas)?;
         writeln!(f, "reserves around the mark, by the rule alone: {}", self.reserves)?;
         writeln!(f, "ranks, counts and pairs at a rank, by the plain list: {}; upgrades of format 1: {}", self.ranks, self.upgrades)?;
+        writeln!(f, "loads {}, of {} pairs; refused {}", self.loads, self.loaded, self.not_loaded)?;
         if cfg!(inner) {
             writeln!(f, "border repairs {}, forks {}, steps along pairs {}", self.borders, self.forks, self.steps)?;
         }

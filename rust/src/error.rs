@@ -4,11 +4,11 @@ use crate::ffi::{Picked, Said};
 use std::fmt;
 
 /// Why a call was refused. A refused call has changed no word. Where several would fit, the first of BadSize, BadArena,
-/// BadImage, Older, BadRange, BadOrder, NoRoom or Spent is given; only the upgrade has BadSize behind BadArena.
+/// BadImage, Older, BadRange, BadOrder, NotRising, NoRoom or Spent is given; only the upgrade has BadSize behind BadArena.
 #[derive(Clone, Copy, Debug, Eq, Hash, PartialEq)]
 #[non_exhaustive]
 pub enum Error {
-    /// 3: the insertion of an absent key lacks nodes.
+    /// 3: the insertion of an absent key, or a load, lacks nodes.
     NoRoom,
     /// 4: the words are not a well-formed arena of format 2; of format 1, in the upgrade.
     BadArena,
@@ -20,6 +20,8 @@ pub enum Error {
     BadSize,
     /// 8: the image is not a well-formed arena.
     BadImage,
+    /// 10: the keys of the pairs that were to be loaded do not rise strictly.
+    NotRising,
     /// 11: the key that was to be reserved is not above the mark.
     Spent,
     /// 12: the image's mark is lower than the index's.
@@ -42,6 +44,7 @@ impl Error {
             Error::BadOrder => 6,
             Error::BadSize => 7,
             Error::BadImage => 8,
+            Error::NotRising => 10,
             Error::Spent => 11,
             Error::Older => 12,
             Error::Other(number) => number,
@@ -56,6 +59,7 @@ impl Error {
             6 => Error::BadOrder,
             7 => Error::BadSize,
             8 => Error::BadImage,
+            10 => Error::NotRising,
             11 => Error::Spent,
             12 => Error::Older,
             _ => Error::Other(number),
@@ -66,12 +70,13 @@ impl Error {
 impl fmt::Display for Error {
     fn fmt(&self, f: &mut fmt::Formatter<'_>) -> fmt::Result {
         match self {
-            Error::NoRoom => f.write_str("no room: the insertion lacks free nodes"),
+            Error::NoRoom => f.write_str("no room: there are not enough nodes"),
             Error::BadArena => f.write_str("the words are not a well-formed arena"),
             Error::BadRange => f.write_str("the range's start is above its end, or equal to it with both excluded"),
             Error::BadOrder => f.write_str("the order's code is not 1, 2, 3 or 4"),
             Error::BadSize => f.write_str("a number of words that cannot be"),
             Error::BadImage => f.write_str("the image is not a well-formed arena"),
+            Error::NotRising => f.write_str("the keys to be loaded do not rise strictly"),
             Error::Spent => f.write_str("the counter is spent: reserve one above the mark"),
             Error::Older => f.write_str("the image is older than the index: if that is meant, say restore_older"),
             Error::Other(number) => write!(f, "refused with the unknown number {number}"),

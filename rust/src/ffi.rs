@@ -42,6 +42,7 @@ unsafe extern "C" {
     ) -> u64;
     fn cuffgarnet_restore(arena: *mut u64, n: u64, image: *const u64, image_n: u64, older: u64) -> u64;
     fn cuffgarnet_upgrade(source: *const u64, source_n: u64, target: *mut u64, target_n: u64) -> u64;
+    fn cuffgarnet_load(arena: *mut u64, n: u64, run: *const u64, run_n: u64) -> u64;
 }
 
 /// What a word holds before a call writes it, as every call does; not 0, so that oracle/ would notice one left unwritten.
@@ -166,4 +167,8 @@ pub fn restore(arena: &mut [u64], image: &[u64], older: u64) -> u64 {
 
 pub fn upgrade(source: &[u64], target: &mut [u64]) -> u64 {
     unsafe { cuffgarnet_upgrade(source.as_ptr(), source.len() as u64, target.as_mut_ptr(), target.len() as u64) }
+}
+
+pub fn load(arena: &mut [u64], run: &[u64]) -> u64 {
+    unsafe { cuffgarnet_load(arena.as_mut_ptr(), arena.len() as u64, run.as_ptr(), run.len() as u64) }
 }

@@ -27,6 +27,9 @@
 //! [`Index::nth`], and [`Index::count`] goes two, however many pairs they count or pass: each node knows how many pairs are below it.
 //! A listing walks over the pairs that it writes.
 //!
+//! Pairs that are in order already, as after a migration, are not put one by one: [`Index::load`] fills the nodes from the left, each to
+//! its 11 pairs, and checks nothing but the run.
+//!
 //! # Formats
 //!
 //! The words are in format 2, which has that count in each node. Words of format 1, which had none, are refused with
@@ -61,6 +64,7 @@ pub use error::Error;
 pub use order::{Order, Outcome};
 pub use range::{Listed, Range};
 
+use std::borrow::Borrow;
 use std::ops::RangeBounds;
 
 /// Words before the first node.
@@ -132,6 +136,21 @@ pub fn words_for(nodes: usize) -> Option<usize> {
     nodes.checked_mul(NODE)?.checked_add(HEADER)
 }
 
+/// How many nodes a load of so many pairs takes. No tree of so many pairs has fewer.
+///
+/// ```
+/// assert_eq!([0, 11, 12, 144, 1_000_000].map(cuffgarnet::nodes_for), [1, 1, 3, 16, 90_913]);
+/// ```
+pub fn nodes_for(pairs: usize) -> usize {
+    let mut left = pairs / 12;
+    let mut nodes = left.saturating_add(1);
+    while left > 0 {
+        left /= 12;
+        nodes = nodes.saturating_add(left).saturating_add(1);
+    }
+    nodes
+}
+
 /// The index. See the [crate's documentation](crate) for what a call costs.
 #[derive(Clone, Debug)]
 pub struct Index<W: Words = Vec<u64>> {
@@ -171,6 +190,24 @@ impl Index {
         let nodes = old.get(NODES).and_then(|nodes| usize::try_from(*nodes).ok());
         let long = nodes.and_then(words_for).ok_or(Error::BadArena)?;
         Self::upgrade(old, vec![0; long])
+    }
+
+    /// An index with so many nodes, in words of its own, loaded with pairs that are in order already: see [`load`](Index::load).
+    ///
+    /// # Errors
+    /// [`Error::BadSize`] if that is no number of nodes, [`Error::NotRising`], [`Error::NoRoom`].
+    ///
+    /// ```
+    /// use cuffgarnet::{nodes_for, Error, Index};
+    /// use std::collections::BTreeMap;
+    /// let old = BTreeMap::from([(3, 30), (1, 10), (2, 20)]);
+    /// let index = Index::loaded(old, nodes_for(3))?;
+    /// assert_eq!((index.len()?, index.get(2)?, index.mark()?), (3, Some(20), Some(3)));
+    /// # Ok::<(), Error>(())
+    /// ```
+    pub fn loaded<P: Borrow<(u64, u64)>>(pairs: impl IntoIterator<Item = P>, nodes: usize) -> Result<Self, Error> {
+        let long = words_for(nodes).ok_or(Error::BadSize)?;
+        Self::load(pairs, vec![0; long])
     }
 }
 
@@ -219,6 +256,50 @@ impl<W: Words> Index<W> {
     /// ```
     pub fn upgrade(old: &[u64], mut words: W) -> Result<Self, Error> {
         error::done(ffi::upgrade(old, words.words_mut()))?;
+        Ok(Index { words })
+    }
+
+    /// Loads pairs that are in order already, from a slice or from anything that hands them out, into these words. What the words held
+    /// before does not matter, and a mark in it is forgotten: the mark is then the last key, or none if there is no pair. It takes
+    /// [`nodes_for`] the number of pairs, and all but the last node of each level are full, so that a few insertions may follow in any
+    /// place, and many at the end. The pairs are first written out as words; [`load_words`](Index::load_words) takes those.
+    ///
+    /// # Errors
+    /// [`Error::BadSize`] if there are not 10 + 39 N words for an N of 1 to 1,048,575; then [`Error::NotRising`] if the keys do not
+    /// rise strictly; then [`Error::NoRoom`] if the nodes are too few. No word has changed then.
+    ///
+    /// ```
+    /// use cuffgarnet::{nodes_for, words_for, Error, Index};
+    /// let pairs = [(1, 10), (2, 20), (5, 50)];
+    /// let mut file = vec![7; words_for(64).ok_or(Error::BadSize)?]; // or the words of a new mapped file
+    /// let mut index = Index::load(&pairs, &mut file[..])?;
+    /// assert_eq!((index.len()?, index.get(5)?, index.mark()?), (3, Some(50), Some(5)));
+    /// index.insert(4, 40)?;
+    /// let squares = Index::load((0..100).map(|k| (k, k * k)), file)?; // the same words again
+    /// assert_eq!((squares.get(9)?, squares.free_nodes()?), (Some(81), 64 - nodes_for(100)));
+    /// assert_eq!(Index::loaded([(2, 20), (2, 21)], 1).err(), Some(Error::NotRising));
+    /// assert_eq!(Index::loaded((0..12).map(|k| (k, 0)), 2).err(), Some(Error::NoRoom));
+    /// # Ok::<(), Error>(())
+    /// ```
+    pub fn load<P: Borrow<(u64, u64)>>(pairs: impl IntoIterator<Item = P>, words: W) -> Result<Self, Error> {
+        let run: Vec<u64> = pairs.into_iter().flat_map(|pair| <[u64; 2]>::from(*pair.borrow())).collect();
+        Self::load_words(&run, words)
+    }
+
+    /// The same from plain words, key and value in turn, with no allocation.
+    ///
+    /// # Errors
+    /// As [`load`](Index::load), and [`Error::BadSize`] for an odd number of words in the run.
+    ///
+    /// ```
+    /// use cuffgarnet::{Error, Index};
+    /// let mut words = [0; 49];
+    /// assert_eq!(Index::load_words(&[1, 10, 2, 20], &mut words[..])?.iter().count(), 2);
+    /// assert_eq!(Index::load_words(&[1, 10, 2], &mut words[..]).err(), Some(Error::BadSize));
+    /// # Ok::<(), Error>(())
+    /// ```
+    pub fn load_words(run: &[u64], mut words: W) -> Result<Self, Error> {
+        error::done(ffi::load(words.words_mut(), run))?;
         Ok(Index { words })
     }
 

@@ -11,9 +11,9 @@ use Rattle.model.specs.declared.Picked.{Picked}
 use Rattle.model.specs.declared.Range.{Range}
 use Rattle.model.specs.Answer.{numbersOf}
 use Rattle.model.specs.State.{State, Reply}
-use Rattle.model.specs.Promise.{Call, Format, Batch, Restore, Listing, Rank, AtRank, Upgrade, badArena, badRangeOf}
+use Rattle.model.specs.Promise.{Call, Format, Batch, Restore, Listing, Rank, AtRank, Upgrade, Load, badArena, badRangeOf}
 use Rattle.model.specs.Map.{rank, countOf}
-use Rattle.model.proofs.Unique.{one-end, one-call, one-format, one-listing, one-tell, one-at, one-batch, one-restore}
+use Rattle.model.proofs.Unique.{one-end, one-call, one-format, one-listing, one-tell, one-at, one-batch, one-restore, one-load}
 use Rattle.model.proofs.Upgrades.{one-upgrade}
 use Rattle.cuffgarnet.specs.declared.Bound.{Bound}
 use Rattle.cuffgarnet.specs.declared.Bound.the-variants.{Known, Unknown}
@@ -96,3 +96,6 @@ same-at i w x y =
 
 pub same-upgrade : (w v : List ℕ) {v₁ v₂ : List ℕ} {n m : ℕ} → Numbered (Upgrade w v v₁) n → Numbered (Upgrade w v v₂) m → (v₁ ≡ v₂) × (n ≡ m)
 same-upgrade w v x y = let e = one-upgrade w v (x .given) (y .given) in (e .0, one-number x y (e .1))
+
+pub same-load : (run w : List ℕ) {w₁ w₂ : List ℕ} {n m : ℕ} → Numbered (Load run w w₁) n → Numbered (Load run w w₂) m → (w₁ ≡ w₂) × (n ≡ m)
+same-load run w x y = let e = one-load run w (x .given) (y .given) in (e .0, one-number x y (e .1))

@@ -6,6 +6,7 @@ use checker::check;
 use checker::well_formed;
 use format::format;
 use listing::list;
+use load::load;
 use map::delete;
 use map::get;
 use map::put;
@@ -275,5 +276,14 @@ pub extern "C" fn cuffgarnet_upgrade(source: &[u64], target: &mut [u64]) -> u64
     ensures { λ r. ⌜ Numbered (Promised (promise.upgrade (now (source .entry))) (now (target .entry)) (now (target .exit)) tt) r ⌝ }
 {
     let made = upgrade(source, target);
+    made.number()
+}
+
+// Loads a sorted run into words that it formats.
+#[no_mangle]
+pub extern "C" fn cuffgarnet_load(arena: &mut [u64], run: &[u64]) -> u64
+    ensures { λ r. ⌜ Numbered (Promised (promise.load (now (run .entry))) (now (arena .entry)) (now (arena .exit)) tt) r ⌝ }
+{
+    let made = load(arena, run);
     made.number()
 }

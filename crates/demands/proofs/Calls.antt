@@ -25,16 +25,18 @@ use Rattle.model.specs.Map.{look, range, rank as rankOf, nth, picked}
 use Rattle.model.specs.Answer.{numbersOf}
 use Rattle.model.specs.State as on
 use Rattle.model.specs.State.{State, Reply, Order, Kind, putting, getting, deleting, reserving, unknown, kindOf, orderAs, list, putAt, putCode, triples}
+use Rattle.model.specs.Load.{pairsOf, lastMark, loaded}
 use Rattle.model.specs.Words.{wordsOf}
 use Rattle.model.specs.Sound.{Sound}
 use Rattle.model.specs.Promise as model
-use Rattle.model.specs.Promise.{Holds, badArena, badRangeOf, room, laid, Called, Formatted, Ran, Restored, Upgraded}
+use Rattle.model.specs.Promise.{Holds, badArena, badRangeOf, room, laid, Called, Formatted, Ran, Restored, Upgraded, Loaded}
 use Rattle.model.proofs.Lists.{same-or}
 use Rattle.model.proofs.Maps.{bad-panics, panics-bad}
 use Rattle.model.proofs.Calls.{get-map, Reached, Reserved, reserve-map, NoneLeft, order-sound, batch-sound, formatted-sound, restored-sound}
 use Rattle.model.proofs.Backward.{one-state, backward}
-use Rattle.model.proofs.Unique.{one-format, one-listing, one-tell, one-at, one-batch, one-restore}
+use Rattle.model.proofs.Unique.{one-format, one-listing, one-tell, one-at, one-batch, one-restore, one-load}
 use Rattle.model.proofs.Upgrades.{one-upgrade}
+use Rattle.loading.proofs.Loads.{load-list, loaded-sound}
 use Rattle.demands.specs.Plain.{Plain, only, ordered, orderedAll, putTo, getFrom, deleteFrom, reserveOn, roomBy, roomsBy}
 use Rattle.demands.specs.Stored.{stored, held}
 use Rattle.demands.specs.Call.{refusal, Call, made, ByMap, Refused, Did}
@@ -330,6 +332,30 @@ upgrade-lawful w = record {
           long-same = long-is h ∙ ap base (sym (header-is (x .holds) countWord (lit< tt))) ∙ sym long;
           says = x .said;
           holds = held-is h ∙ sym (held-is (x .holds));
+          leaves = tt;
+          refused-same = λ b. both-ways b (ap refusal (x .said));
+        }
+
+-- ---- load
+
+pub load-lawful : (run : List ℕ) → Lawful (call.load run)
+load-lawful run = record {
+  by-map = λ w w′ l r. ends-map ((call.load run) .refusals w) (refused-alone (call.load run) refl) (λ n x. did x);
+  one-end = λ w w₁ w₂ l₁ l₂ r₁ r₂ x y. one-alone (one-load run w x y);
+  refusing = λ w. refl;
+  raises = λ rooms p. mark-raises unseen (lastMark (pairsOf run));
+}
+  where
+    did : {w w′ : List ℕ} {r : Answer} → Loaded run w w′ r → Did (call.load run) w w′ tt r
+    did {w} {w′} x =
+        let ps = pairsOf run in
+        let h : Holds w′ (loaded (x .count) ps) = kept-words (loaded-sound (x .count) ps (x .rising) (x .room) (x .sized .few)) (x .left) in
+        record {
+          was-formed = λ e. both-ways refl e;
+          formed = backward w′ (loaded (x .count) ps) h;
+          long-same = long-is h ∙ sym (x .sized .long-is);
+          says = x .said;
+          holds = held-is h ∙ (λ i. record { pairs = load-list ps (lastMark ps) (x .count) i; mark = lastMark ps });
           leaves = tt;
           refused-same = λ b. both-ways b (ap refusal (x .said));
         }

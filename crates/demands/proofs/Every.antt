@@ -24,7 +24,7 @@ use Rattle.model.proofs.Forward.{forward}
 use Rattle.demands.specs.Plain.{Plain, empty, bringing, Made, Spent, Raises, Spending}
 use Rattle.demands.specs.Stored.{held}
 use Rattle.demands.specs.Call.{Speech, Call, given, made, Unchanged, Refused, Did, ByMap}
-use Rattle.demands.specs.Public.{Public, format, check, get, put, delete, reserve, order, list, rank, count, at, batch, restore, upgrade}
+use Rattle.demands.specs.Public.{Public, format, check, get, put, delete, reserve, order, list, rank, count, at, batch, restore, upgrade, load}
 use Rattle.demands.specs.History.{Turn, Run, Standing, after, afterAll, Kept, NotLower}
 use Rattle.demands.specs.Demands.{AsTheMap, AnyHistory, OneEnd}
 use Rattle.model.proofs.Header.{header-is, seen-is, mark-is, mark-by, stored-mark}
@@ -51,6 +51,7 @@ lawful _ (count q) = calls.count-lawful q
 lawful _ (at i) = calls.at-lawful i
 lawful _ (restore m i) = calls.restore-lawful m i
 lawful _ (upgrade w) = calls.upgrade-lawful w
+lawful _ (load run) = calls.load-lawful run
 
 pub as-the-map : AsTheMap
 as-the-map c p = (lawful c p) .by-map

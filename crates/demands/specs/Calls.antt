@@ -20,8 +20,9 @@ use Rattle.model.specs.Mark.{higher, reached, storedMark}
 use Rattle.model.specs.Map.{look, range, rank as rankOf, nth, picked, Panics}
 use Rattle.model.specs.Answer.{numbersOf}
 use Rattle.model.specs.State.{State, Order, Kind, putting, getting, deleting, reserving, unknown, kindOf, triples}
+use Rattle.model.specs.Load.{pairsOf, lastMark}
 use Rattle.model.specs.WellFormed.{WellFormed}
-use Rattle.model.specs.Promise.{Refusal, badSize, badArenaBy, badArena, badImage, older, AnyCount, Holds, Fits, room, laid}
+use Rattle.model.specs.Promise.{Refusal, badSize, badArenaBy, badArena, badImage, older, AnyCount, Holds, Fits, room, laid, Loadable, notRising, noNodes}
 use Rattle.model.specs.Public as promise
 use Rattle.demands.specs.Stored.{stored, heldBy, held}
 use Rattle.demands.specs.Plain.{empty, bringing, only, putTo, getFrom, deleteFrom, reserveOn, ordered, orderedAll, roomsBy}
@@ -250,4 +251,17 @@ upgrade w = record {
   does = λ rooms p. record { said = Done; plain = heldBy Format1 w; spent = bringing (storedMark w) };
   leaves = λ v v′ l. Unit {0};
   begins = true;
+}
+
+-- ---- load: it begins a history with the run's pairs and its last key
+
+abbrev pub load : (run : List ℕ) → Call
+load run = record {
+  promise = promise.load run;
+  speech = inAnswer;
+  refusals = λ w. badSize (Loadable run w → ⊥) ∷ notRising (pairsOf run) ∷ noNodes (pairsOf run) w ∷ [];
+  rooms = λ r l. [];
+  does = λ rooms p. let ps = pairsOf run in record { said = Done; plain = record { pairs = ps; mark = lastMark ps }; spent = bringing (lastMark ps) };
+  leaves = λ w w′ l. Unit {0};
+  begins = true;  -- whatever the slice held
 }

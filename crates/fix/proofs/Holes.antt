@@ -26,11 +26,11 @@ use Rattle.standing.proofs.Scenes.{close}
 use Rattle.standing.proofs.Heads.{plug-root, plug-top}
 use Rattle.shrinking.proofs.Items.{body-parts, pairIn, edgeIn, column-long, there}
 use Rattle.shrinking.proofs.Steps.{content-pairs}
-use Rattle.standing.specs.Heads.{Rest, headWords, topOf, HoleIn, ClosedIn}
+use Rattle.standing.specs.Heads.{Rest, headWords, topOf, HoleBy, ClosedBy}
 
 -- ---- a whole tree again
 
-pub closed-in : {w : List ℕ} {g : Rest} {h : ℕ} (c : Ctx h) (t : Tree h) (free : List ℕ) → HoleIn w g c t free → ClosedIn w g (record { whole = plug c t; free = free })
+pub closed-in : {P : List NodeVal → Type 0} {w : List ℕ} {g : Rest} {h : ℕ} (c : Ctx h) (t : Tree h) (free : List ℕ) → HoleBy P w g c t free → ClosedBy P w g (record { whole = plug c t; free = free })
 closed-in c t free H = record { nodes = H .nodes; arena = rw (plug-root c t, plug-top c t) (H .arena); stand = close c t free (H .stand); many = H .many; told = H .told }
 
 -- a root that has pairs, or is a leaf, stays
@@ -56,7 +56,7 @@ few-free n (y ∷ l) a o x u z =
 
 -- ---- header words
 
-module _ {w : List ℕ} {g : Rest} {h : ℕ} (c : Ctx h) (t : Tree h) (free : List ℕ) (H : HoleIn w g c t free) where
+module _ {P : List NodeVal → Type 0} {w : List ℕ} {g : Rest} {h : ℕ} (c : Ctx h) (t : Tree h) (free : List ℕ) (H : HoleBy P w g c t free) where
   pub hole-header : (i : ℕ) → i < headerSize → header w i ≡ getD (headWords g (rootOf c (rootNo h t)) (pred (topOf c)) free) i 0
   hole-header i l = arena-header (H .arena) i l
 
@@ -70,7 +70,7 @@ abbrev pub hangs : {h : ℕ} → Ctx h → Ascent
 hangs top = Root
 hangs (under f c) = Edge (record { 0 = f .no }) (record { 0 = length (f .left) })
 
-module _ {w : List ℕ} {g : Rest} {h : ℕ} (c : Ctx (suc h)) (t : Tree (suc h)) (free : List ℕ) (H : HoleIn w g c t free) where
+module _ {P : List NodeVal → Type 0} {w : List ℕ} {g : Rest} {h : ℕ} (c : Ctx (suc h)) (t : Tree (suc h)) (free : List ℕ) (H : HoleBy P w g c t free) where
   node-in : t .no < length (H .nodes)
   node-in = H .stand .within (t .no) (omega (arith, one-self (t .no)))
 
@@ -96,7 +96,7 @@ this-edge n (z ∷ L) x R = there n L (z .edge) edgeIn (record { pair = z .pair;
 
 -- ---- its parent
 
-module _ {w : List ℕ} {g : Rest} {h : ℕ} (n : ℕ) (l r : List (Item (Tree (suc h)))) (c : Ctx (suc (suc h))) (t : Tree (suc h)) (free : List ℕ) (H : HoleIn w g (under (record { no = n; left = l; right = r }) c) t free) where
+module _ {P : List NodeVal → Type 0} {w : List ℕ} {g : Rest} {h : ℕ} (n : ℕ) (l r : List (Item (Tree (suc h)))) (c : Ctx (suc (suc h))) (t : Tree (suc h)) (free : List ℕ) (H : HoleBy P w g (under (record { no = n; left = l; right = r }) c) t free) where
   abbrev ns : List NodeVal
   ns = H .nodes
 
@@ -143,17 +143,17 @@ module _ {w : List ℕ} {g : Rest} {h : ℕ} (n : ℕ) (l r : List (Item (Tree (
   own-edge = parent-edge (length l) (omega arith) ∙ rw (← i-is) (this-edge n Ls (t .no) Rs)
 
 -- its left sibling and its right one
-pub left-sibling : {w : List ℕ} {g : Rest} {h : ℕ} (n : ℕ) (x : Item (Tree (suc h))) (l r : List (Item (Tree (suc h)))) (c : Ctx (suc (suc h))) (t : Tree (suc h)) (free : List ℕ) → HoleIn w g (under (record { no = n; left = x ∷ l; right = r }) c) t free
+pub left-sibling : {P : List NodeVal → Type 0} {w : List ℕ} {g : Rest} {h : ℕ} (n : ℕ) (x : Item (Tree (suc h))) (l r : List (Item (Tree (suc h)))) (c : Ctx (suc (suc h))) (t : Tree (suc h)) (free : List ℕ) → HoleBy P w g (under (record { no = n; left = x ∷ l; right = r }) c) t free
     → wordAt w n (edgesWord + length l) ≡ x .edge .no
 left-sibling {h = h} n x l r c t free H =
     parent-edge n (x ∷ l) r c t free H (length l) (omega arith)
     ∙ (let i : length (numbered (suc h) l) ≡ length l = length-map l _ in rw (← i) (this-edge n (numbered (suc h) l) (x .edge .no) (record { pair = x .pair; edge = t .no } ∷ numbered (suc h) r)))
 
-pub right-sibling : {w : List ℕ} {g : Rest} {h : ℕ} (n : ℕ) (x : Item (Tree (suc h))) (r : List (Item (Tree (suc h)))) (c : Ctx (suc (suc h))) (t : Tree (suc h)) (free : List ℕ) → HoleIn w g (under (record { no = n; left = []; right = x ∷ r }) c) t free
+pub right-sibling : {P : List NodeVal → Type 0} {w : List ℕ} {g : Rest} {h : ℕ} (n : ℕ) (x : Item (Tree (suc h))) (r : List (Item (Tree (suc h)))) (c : Ctx (suc (suc h))) (t : Tree (suc h)) (free : List ℕ) → HoleBy P w g (under (record { no = n; left = []; right = x ∷ r }) c) t free
     → wordAt w n (edgesWord + 1) ≡ x .edge .no
 right-sibling n x r c t free H = parent-edge n [] (x ∷ r) c t free H 1 (omega arith)
 
-pub ascent-is : {w : List ℕ} {g : Rest} {h : ℕ} (c : Ctx (suc h)) (t : Tree (suc h)) (free : List ℕ) → HoleIn w g c t free → ascentOf (wordAt w (t .no) parentWord) (wordAt w (t .no) placeWord) ≡ hangs c
+pub ascent-is : {P : List NodeVal → Type 0} {w : List ℕ} {g : Rest} {h : ℕ} (c : Ctx (suc h)) (t : Tree (suc h)) (free : List ℕ) → HoleBy P w g c t free → ascentOf (wordAt w (t .no) parentWord) (wordAt w (t .no) placeWord) ≡ hangs c
 ascent-is top t free H =
     let o = node-in top t free H in
     rw (parent-is (H .arena) (t .no) o) (ascent-root (nth (H .nodes) (t .no) .parent) _ (link-parent (H .stand .root)))

@@ -29,7 +29,7 @@ pub sized : (n long : ℕ) → (n ≡ 0 → ⊥) → Counted long n → Sized n 
 sized zero long z c = absurd (z refl)
 sized (suc n) long z c = c
 
-unsized : (n long : ℕ) → n ≡ 0 → Counted long n → AnyCount long → ⊥
+pub unsized : (n long : ℕ) → n ≡ 0 → Counted long n → AnyCount long → ⊥
 unsized zero long z c = c
 unsized (suc n) long z c = absurd (omega arith)
 

@@ -30,7 +30,7 @@ ghost use Rattle.format.specs.Formatting.{Counted, chainAfter, emptyNode
 const LARGEST: usize = 1_048_575;
 
 // How many nodes a slice of so many words is an arena of; 0 if of none.
-fn node_count(long: usize) -> usize
+pub fn node_count(long: usize) -> usize
     ensures { λ r. ⌜ Counted long r ⌝ }
 {
     if long < HEADER {
@@ -97,7 +97,7 @@ fn write_chain(a: &mut [u64], count: usize)
 }
 
 // All words, whatever they were.
-fn write_all(a: &mut [u64], count: usize)
+pub fn write_all(a: &mut [u64], count: usize)
     requires { ⌜ Sized count (length (now a)) ⌝ }
     ensures { λ _. ⌜ now (a .exit) ≡ wordsOf (formatted count) ⌝ }
 {

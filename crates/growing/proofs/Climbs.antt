@@ -96,7 +96,7 @@ module _ {w : List ℕ} {s : State} (o : Holds w s) where
       record {
         nodes = nodesIn s;
         arena = rw d at a;
-        stand = start c (s .free) (enter c tt (s .free) (rw e (closed-of o)));
+        stand = start c tt (s .free) (enter c tt (s .free) (rw e (closed-of o)));
         many = held-of (o .sound) .many;
         told = laid-totals (sound-laid (o .sound));
       }
@@ -194,12 +194,12 @@ module _ {w : List ℕ} {g : Rest} {h : ℕ} (x y : Tree (suc h)) (p : Pair) (m 
   O = H .stand
 
   push-fine : PushReady hd (H .nodes) (m ∷ free)
-  push-fine = push-ready x y m free O hd refl refl refl (omega arith)
+  push-fine = push-ready x (suc h) y m free O hd refl refl refl (omega arith)
 
   new-none : nth (H .nodes) m .total ≡ 0
   new-none = ap (λ (v : NodeVal). v .total) (O .chain .0)
 
-  abbrev pushed : (w₁ : List ℕ) (n : ℕ) → PushCall w w₁ n → (n ≡ m) × OpenBut (m ∷ []) w₁ g (under (new-root x y m free O hd refl) (top {h = suc (suc h)})) x y free
+  abbrev pushed : (w₁ : List ℕ) (n : ℕ) → PushCall w w₁ n → (n ≡ m) × OpenBut (m ∷ []) w₁ g (under (new-root x (suc h) y m free O hd refl) (top {h = suc (suc h)})) x y free
   pushed w₁ n call =
       let q = call hd (H .nodes) (m ∷ free) push-fine (H .arena) in
       let e : pushHead hd (m ∷ free) ≡ headWords g m (suc h) free = (let b : h + 1 ≡ suc h = omega arith in rw b refl) in (
@@ -207,31 +207,31 @@ module _ {w : List ℕ} {g : Rest} {h : ℕ} (x y : Tree (suc h)) (p : Pair) (m 
         record {
           nodes = pushNodes hd (m ∷ free) (H .nodes);
           arena = rw e at (q .1);
-          stand = push-step x y m free O hd refl;
-          many = push-long x y m free O hd refl ∙ H .many;
-          told = changed (H .nodes) _ [] (m ∷ []) _ (Kp x y m free O hd refl) (push-total hd (m ∷ free) (H .nodes) new-none) (λ q u. refl) (H .told);
+          stand = push-step x (suc h) y m free O hd refl;
+          many = push-long x (suc h) y m free O hd refl ∙ H .many;
+          told = changed (H .nodes) _ [] (m ∷ []) _ (Kp x (suc h) y m free O hd refl) (push-total hd (m ∷ free) (H .nodes) new-none) (λ q u. refl) (H .told);
         },
       )
 
   new-low : (w₁ : List ℕ) (n : ℕ) (call : PushCall w w₁ n) → nth (pushed w₁ n call .1 .nodes) m .total ≤ ample
   new-low w₁ n call = omega (arith, push-total hd (m ∷ free) (H .nodes) new-none m, new-none)
 
-  raw : (w₁ : List ℕ) (n : ℕ) → PushCall w w₁ n → (w₂ : List ℕ) → FitCall 1 w₁ w₂ n 0 p (y .no) → FitRaw w₂ g (new-root x y m free O hd refl) (top {h = suc (suc h)}) x y p free
+  raw : (w₁ : List ℕ) (n : ℕ) → PushCall w w₁ n → (w₂ : List ℕ) → FitCall 1 w₁ w₂ n 0 p (y .no) → FitRaw w₂ g (new-root x (suc h) y m free O hd refl) (top {h = suc (suc h)}) x y p free
   raw w₁ n call w₂ fit =
       let q = pushed w₁ n call in
-      fit-held (new-root x y m free O hd refl) top x y free (q .1) refl p w₂ (rw (q .0) at fit) (λ q u. u) (new-low w₁ n call)
+      fit-held (new-root x (suc h) y m free O hd refl) top x y free (q .1) refl p w₂ (rw (q .0) at fit) (λ q u. u) (new-low w₁ n call)
 
   crowned : Crown w g p (y .no) (rise (top {h = suc h}) x p y (m ∷ free))
   crowned = record {
     ready = record { head = hd; nodes = H .nodes; arena = H .arena; holds = (m ∷ free, push-fine) };
-    fits = λ w₁ n call. let q = pushed w₁ n call in rw (q .0) (fit-in (new-root x y m free O hd refl) top x y free (q .1) refl);
+    fits = λ w₁ n call. let q = pushed w₁ n call in rw (q .0) (fit-in (new-root x (suc h) y m free O hd refl) top x y free (q .1) refl);
     settles = λ w₁ n call w₂ fit.
         let q = raw w₁ n call w₂ fit in
         let e = pushed w₁ n call .0 in
-        rw e (record { head = _; nodes = q .nodes; arena = q .arena; holds = fit-settles (new-root x y m free O hd refl) top x y p free q });
+        rw e (record { head = _; nodes = q .nodes; arena = q .arena; holds = fit-settles (new-root x (suc h) y m free O hd refl) top x y p free q });
     out = λ w₁ n call w₂ fit w₃ settle.
         let e = pushed w₁ n call .0 in
-        fit-done (new-root x y m free O hd refl) top x y p free (raw w₁ n call w₂ fit) w₃ (rw e at settle);
+        fit-done (new-root x (suc h) y m free O hd refl) top x y p free (raw w₁ n call w₂ fit) w₃ (rw e at settle);
   }
 
 module _ {w : List ℕ} {g : Rest} (node levels r : ℕ) {p : Pair} {t : Grown} (k : Climbing w g node levels p r t) where

@@ -11,7 +11,7 @@ use Rattle.model.specs.Layout.{internal, NodeVal, nth}
 use Rattle.store.specs.Links.{Body, bodyOf, withBody, withEdges, fresh, linked}
 use Rattle.leaf.specs.Pairs.{withPairs}
 use Rattle.leaf.specs.Split.{cutBodies, splitNodes}
-use Rattle.internal.specs.Inner.{fitBodies, fitNodes, pushNodes, rootOf}
+use Rattle.internal.specs.Inner.{fitBodies, fitNodes, crownNodes, pushNodes, rootOf}
 use Rattle.standing.specs.Kept.{Kept}
 use Rattle.standing.specs.Totals.{totals, due, TotalsBut}
 use Rattle.totals.proofs.Siblings.{Same, same-totals, set-same, relink-same}
@@ -31,7 +31,7 @@ split-total ns n m i z q =
     relink-same (cutBodies ns n m i) m 0 (drop 0 (nth (cutBodies ns n m i) m .edges)) q ∙ set-same (set ns n v) m u (sym (set-same ns n v refl m ∙ z)) q ∙ set-same ns n v refl q
 
 pub push-total : (h free : List ℕ) (ns : List NodeVal) → nth ns (taken free) .total ≡ 0 → Same ns (pushNodes h free ns)
-unfolding pushNodes
+unfolding crownNodes
 push-total h free ns z q =
     let v = withEdges (fresh internal) (rootOf h ∷ []) in
     set-same (set ns (taken free) v) (rootOf h) (linked (nth (set ns (taken free) v) (rootOf h)) (taken free) 0) refl q ∙ set-same ns (taken free) v (sym z) q

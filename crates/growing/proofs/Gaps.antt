@@ -19,7 +19,7 @@ use Rattle.node.specs.Reading.{Within, Has}
 use Rattle.node.proofs.Reading.{within, len-is}
 use Rattle.store.specs.Links.{takeHead}
 use Rattle.leaf.specs.Split.{splitNodes, CutReady, Cuttable, Cut}
-use Rattle.standing.specs.Standing.{rootOf}
+use Rattle.standing.specs.Standing.{rootOf, Open}
 use Rattle.standing.proofs.Scenes.{close, zoom-out}
 use Rattle.standing.proofs.Heads.{plug-root, plug-top}
 use Rattle.growing.specs.Steps.{fitAt, FitsAt, Splits, half}
@@ -56,16 +56,23 @@ with-first {w} {g} c x y free l H = subst (λ (t : List ℕ). OpenIn w g c x y t
 
 -- ---- a pair that fits
 
+module _ {w hd : List ℕ} {ns : List NodeVal} {h : ℕ} (f : Frame (Tree h)) (c : Ctx (suc h)) (x y : Tree h) (free : List ℕ) (a : Arena w hd ns) (O : Open ns (under f c) x y free) where
+  pub known-here : Within w (f .no) × (wordAt w (f .no) lengthWord ≡ length (f .left) + length (f .right)) × (length (f .left) + length (f .right) ≤ most)
+  known-here =
+      let o = node-in f c x y free O in
+      let e = node-pairs f c x y free O in
+      (within a (f .no) o, len-is a (f .no) o ∙ e, omega (arith, a .small (f .no) o .pairs-fit))
+
+  pub fits-here : isFull f ≡ false → FitIn h w (f .no) (length (f .left)) (rootNo h y)
+  fits-here room = record { head = _; nodes = ns; arena = a; holds = fit-ready f c x y free O room }
+
 module _ {us w : List ℕ} {g : Rest} {h : ℕ} (f : Frame (Tree h)) (c : Ctx (suc h)) (x y : Tree h) (free : List ℕ) (H : OpenBut us w g (under f c) x y free) where
   pub node-known : Within w (f .no) × (wordAt w (f .no) lengthWord ≡ length (f .left) + length (f .right)) × (length (f .left) + length (f .right) ≤ most)
-  node-known =
-      let o = node-in f c x y free (H .stand) in
-      let e = node-pairs f c x y free (H .stand) in
-      (within (H .arena) (f .no) o, len-is (H .arena) (f .no) o ∙ e, omega (arith, H .arena .small (f .no) o .pairs-fit))
+  node-known = known-here f c x y free (H .arena) (H .stand)
 
   module _ (room : isFull f ≡ false) where
     pub fit-in : FitIn h w (f .no) (length (f .left)) (rootNo h y)
-    fit-in = record { head = _; nodes = H .nodes; arena = H .arena; holds = fit-ready f c x y free (H .stand) room }
+    fit-in = fits-here f c x y free (H .arena) (H .stand) room
 
     pub fit-held : (p : Pair) (w′ : List ℕ) → FitCall h w w′ (f .no) (length (f .left)) p (rootNo h y) → ((q : ℕ) → times q (f .no ∷ []) ≡ 0 → times q us ≡ 0) → nth (H .nodes) (f .no) .total ≤ ample → FitRaw w′ g f c x y p free
     fit-held p w′ call sub low =

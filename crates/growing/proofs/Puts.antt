@@ -17,7 +17,7 @@ use Rattle.model.proofs.Lists.{one-same, one-other, times-append}
 use Rattle.store.specs.Links.{bodyOf, linkOf, withBody, withEdges, fresh, relinkFrom}
 use Rattle.store.proofs.Relink.{from-none, from-body}
 use Rattle.leaf.specs.Split.{cutBodies, splitNodes}
-use Rattle.internal.specs.Inner.{rootOf, fitNodes, pushNodes}
+use Rattle.internal.specs.Inner.{fitNodes, crownNodes}
 use Rattle.standing.specs.Kept.{Child, Links, leads, Edged, In, LinksBut, Bodied, Kept}
 use Rattle.standing.proofs.Leads.{times-parts, leads-node, leads-set, links-edged}
 use Rattle.standing.proofs.Relinks.{relinked, links-all}
@@ -277,22 +277,16 @@ module _ (ns : List NodeVal) (L : Links ns) (few : length ns ≤ largestCount) (
 
 -- ---- a level put on
 
--- there is a free node, and a root
-pub record Crowns (h : List ℕ) (ns : List NodeVal) (m next : ℕ) : Type 0 where
+-- there is a free node, and one that hangs nowhere
+pub record Crowns (ns : List NodeVal) (old m next : ℕ) : Type 0 where
   pub few : length ns ≤ largestCount
   pub inside : m < length ns
   pub is-free : nth ns m ≡ freeVal next
-  pub root : rootOf h < length ns
-  pub live : 1 ≤ nth ns (rootOf h) .state
-  pub loose : nth ns (rootOf h) .parent ≡ none
+  pub root : old < length ns
+  pub live : 1 ≤ nth ns old .state
+  pub loose : nth ns old .parent ≡ none
 
-module _ (h : List ℕ) (ns : List NodeVal) (L : Links ns) (m : ℕ) (free : List ℕ) (next : ℕ) (C : Crowns h ns m next) where
-  abbrev new : ℕ
-  new = m
-
-  abbrev old : ℕ
-  old = rootOf h
-
+module _ (ns : List NodeVal) (L : Links ns) (old new next : ℕ) (C : Crowns ns old new next) where
   abbrev took₁ : List NodeVal
   took₁ = set ns new (fresh internal)
 
@@ -318,21 +312,21 @@ module _ (h : List ℕ) (ns : List NodeVal) (L : Links ns) (m : ℕ) (free : Lis
   joins =
       join-one took₁ (taking .links) (rw length-set (C .few)) old (rw length-set (C .root)) (rw old₁ (C .live)) (ap (λ (v : NodeVal). v .parent) old₁ ∙ C .loose) new (old ∷ []) 0 (rw length-set (C .inside)) (λ j a b. absurd (not-suc-le-zero a)) (λ q. rw new₁ (omega arith))
 
-  pushed-is : relinkFrom (set took₁ new (withBody (nth took₁ new) [] (old ∷ []))) new 0 ≡ pushNodes h (m ∷ free) ns
-  unfolding pushNodes
+  pushed-is : relinkFrom (set took₁ new (withBody (nth took₁ new) [] (old ∷ []))) new 0 ≡ crownNodes ns new old
+  unfolding crownNodes
   pushed-is = rw (new₁, set-set ns new (fresh internal) crown, crowned) refl
 
-  pub push-kept : Kept ns (pushNodes h (m ∷ free) ns) (new ∷ []) (new ∷ old ∷ [])
+  pub push-kept : Kept ns (crownNodes ns new old) (new ∷ []) (new ∷ old ∷ [])
   push-kept =
       kept-trans (kept-more (new ∷ []) (new ∷ []) (new ∷ []) (new ∷ old ∷ []) (λ q z. z) (λ q z. omega arith) taking)
       (kept-more (new ∷ []) (old ∷ []) (new ∷ []) (new ∷ old ∷ []) (λ q z. z) (λ q z. omega arith) (rw pushed-is at (put-kept took₁ (taking .links) new [] (old ∷ []) 0 (old ∷ []) (old ∷ []) joins)))
 
-  push-new : nth (pushNodes h (m ∷ free) ns) new ≡ crown
-  unfolding pushNodes
+  push-new : nth (crownNodes ns new old) new ≡ crown
+  unfolding crownNodes
   push-new = getD-set-other (set ns new crown) old new _ blank (λ e. push-other (sym e)) ∙ crowned
 
-  pub push-body : bodyOf (nth (pushNodes h (m ∷ free) ns) new) ≡ record { state = internal; pairs = []; edges = old ∷ [] }
+  pub push-body : bodyOf (nth (crownNodes ns new old) new) ≡ record { state = internal; pairs = []; edges = old ∷ [] }
   push-body = ap bodyOf push-new
 
-  pub push-root : linkOf (nth (pushNodes h (m ∷ free) ns) new) ≡ record { parent = none; place = 0 }
+  pub push-root : linkOf (nth (crownNodes ns new old) new) ≡ record { parent = none; place = 0 }
   push-root = ap linkOf push-new

@@ -3,7 +3,7 @@
 use Prim.Native.Nat.{ℕ, zero, suc, _+_, _≤_, _<_}
 use native.Mathlib.Nat.{not-suc-le-zero}
 use native.Mathlib.Omega.{arith}
-use mathlib.Core.Path.{_≡_, refl, ap, ap₂, _∙_, sym}
+use mathlib.Core.Path.{_≡_, refl, ap, ap₂, _∙_, sym, subst}
 use mathlib.Core.Logic.{_≢_}
 use mathlib.Core.Bool.{true, false}
 use mathlib.Core.List.{List, [], _∷_, _++_, map, tail, map-append}
@@ -12,7 +12,7 @@ use lib.Seq.{length-take-le, set-at, getD-at}
 use borrow.Author.Tests.{leb-true, leb-false}
 use Rattle.model.specs.Lists.{one, times}
 use Rattle.model.specs.Tree.{Pair, Item, Tree, Frame, Ctx, top, under, fill, Twin, hasIn, has, hasCtx}
-use Rattle.model.specs.Layout.{none, most, largestCount, NodeVal, nth}
+use Rattle.model.specs.Layout.{none, most, internal, largestCount, NodeVal, nth}
 use Rattle.model.specs.Words.{kind, rootNo, firstOr}
 use Rattle.model.specs.Insert.{Side, left, right, Split, splitpoint, pairOf, edgeOf, intoLeft, intoRight, isFull}
 use Rattle.model.proofs.Lists.{one-same, one-other}
@@ -27,7 +27,7 @@ use Rattle.leaf.specs.Split.{splitNodes, CutReady}
 use Rattle.internal.specs.Inner as header
 use Rattle.internal.specs.Inner.{pushNodes}
 use Rattle.standing.specs.Kept.{Links, Kept}
-use Rattle.standing.specs.Standing.{numbered, content, contentOf, Stands, rootOf, counts, Hole, Open, Loose}
+use Rattle.standing.specs.Standing.{numbered, content, contentOf, Stands, rootOf, counts, Hole, Aside, Open, Loose}
 use Rattle.standing.proofs.Freed.{open-frees}
 use Rattle.standing.proofs.Leads.{one-self, link-parent}
 use Rattle.standing.proofs.Relinks.{body-state}
@@ -58,13 +58,13 @@ loose-kept : (h : ℕ) (y : Tree h) {ns ns′ : List NodeVal} {xs ys : List ℕ}
 loose-kept zero y K z l = tt
 loose-kept (suc h) y K z l = link-parent (K .roots (y .no) (omega (arith, z (y .no), one-self (y .no))) l) ∙ l
 
--- ---- where the climb starts: gaps
+-- ---- nothing beside the hole. (Where the climb starts, at a gap, that is a gap too)
 
-pub start : {ns : List NodeVal} (c : Ctx zero) (free : List ℕ) → Hole ns c tt free → Open ns c tt tt free
-start c free H = record {
+pub start : {ns : List NodeVal} {h : ℕ} (c : Ctx h) (x : Tree h) (free : List ℕ) → Hole ns c x free → Aside ns c x 0 tt free
+start c x free H = record {
   few = H .few;
   way = H .way;
-  low = tt;
+  low = H .tree;
   high = tt;
   loose = tt;
   chain = H .chain;
@@ -156,12 +156,12 @@ module _ {h : ℕ} (f : Frame (Tree h)) (c : Ctx (suc h)) (x y : Tree h) (free :
 
 -- ---- the first free node
 
-module _ {h : ℕ} (c : Ctx h) (x y : Tree h) (m : ℕ) (free : List ℕ) {ns : List NodeVal} (O : Open ns c x y (m ∷ free)) where
+module _ {h : ℕ} (c : Ctx h) (x : Tree h) (j : ℕ) (y : Tree j) (m : ℕ) (free : List ℕ) {ns : List NodeVal} (O : Aside ns c x j y (m ∷ free)) where
   pub free-in : m < length ns
   free-in = O .within m (omega (arith, one-self m))
 
   pub take-ready : (hd : List ℕ) → firstFree hd ≡ m → freeNodes hd ≡ suc (length free) → TakeReady hd ns (m ∷ free)
-  take-ready hd e s = record { some = omega arith; frees = open-frees c x y (m ∷ free) O hd e s }
+  take-ready hd e s = record { some = omega arith; frees = open-frees c x j y (m ∷ free) O hd e s }
 
 -- ---- a full node
 
@@ -254,7 +254,7 @@ module _ {h : ℕ} (f : Frame (Tree h)) (c : Ctx (suc h)) (x y : Tree h) (p : Pa
   on = node-in f c x y (m ∷ free) O
 
   om : m < length ns
-  om = free-in (under f c) x y m free O
+  om = free-in (under f c) x h y m free O
 
   apart : f .no ≢ m
   apart d = omega (arith, O .once m, one-same (f .no) m d, one-self m)
@@ -293,7 +293,7 @@ module _ {h : ℕ} (f : Frame (Tree h)) (c : Ctx (suc h)) (x y : Tree h) (p : Pa
 
   pub cut-ready : (hd : List ℕ) → firstFree hd ≡ m → freeNodes hd ≡ suc (length free) → CutReady hd ns (m ∷ free) (f .no) (s .place) × Splits h ns (f .no)
   cut-ready hd d g = (
-    record { take = take-ready (under f c) x y m free O hd d g; node = on; place = rw (node-pairs f c x y (m ∷ free) O) (omega (arith, place, node-long f c x y (m ∷ free) O)) },
+    record { take = take-ready (under f c) x h y m free O hd d g; node = on; place = rw (node-pairs f c x y (m ∷ free) O) (omega (arith, place, node-long f c x y (m ∷ free) O)) },
     splitting ns (O .links) (O .few) (f .no) e r on h body,
   )
 
@@ -349,17 +349,17 @@ module _ {h : ℕ} (f : Frame (Tree h)) (c : Ctx (suc h)) (x y : Tree h) (p : Pa
 
 -- ---- above the root
 
-module _ {h : ℕ} (x y : Tree (suc h)) (m : ℕ) (free : List ℕ) {ns : List NodeVal} (O : Open ns (top {h = suc h}) x y (m ∷ free)) (hd : List ℕ) (er : header.rootOf hd ≡ x .no) where
+module _ {h : ℕ} (x : Tree (suc h)) (j : ℕ) (y : Tree j) (m : ℕ) (free : List ℕ) {ns : List NodeVal} (O : Aside ns (top {h = suc h}) x j y (m ∷ free)) (hd : List ℕ) (er : header.rootOf hd ≡ x .no) where
   abbrev pub new-root : Frame (Tree (suc h))
   new-root = record { no = m; left = []; right = [] }
 
   root-inside : x .no < length ns
   root-inside = O .within (x .no) (omega (arith, one-self (x .no)))
 
-  crowns : Crowns hd ns m (firstOr free)
+  crowns : Crowns ns (header.rootOf hd) m (firstOr free)
   crowns = record {
     few = O .few;
-    inside = free-in (top {h = suc h}) x y m free O;
+    inside = free-in (top {h = suc h}) x j y m free O;
     is-free = O .chain .0;
     root = rw er root-inside;
     live = rw (er, body-state (O .low .0)) (kind-some h);
@@ -367,25 +367,25 @@ module _ {h : ℕ} (x y : Tree (suc h)) (m : ℕ) (free : List ℕ) {ns : List N
   }
 
   pub Kp : Kept ns (pushNodes hd (m ∷ free) ns) (m ∷ []) (m ∷ x .no ∷ [])
-  Kp = rw er at (push-kept hd ns (O .links) m free (firstOr free) crowns)
+  Kp = subst (λ (k : ℕ). Kept ns (pushNodes hd (m ∷ free) ns) (m ∷ []) (m ∷ k ∷ [])) er (push-kept ns (O .links) (header.rootOf hd) m (firstOr free) crowns)
 
   pub push-ready : firstFree hd ≡ m → freeNodes hd ≡ suc (length free) → header.heightOf hd < largestCount → header.PushReady hd ns (m ∷ free)
-  push-ready em g u = record { take = take-ready (top {h = suc h}) x y m free O hd em g; root = rw er root-inside; height = u }
+  push-ready em g u = record { take = take-ready (top {h = suc h}) x j y m free O hd em g; root = rw er root-inside; height = u }
 
   pub push-long : length (pushNodes hd (m ∷ free) ns) ≡ length ns
   push-long = Kp .long
 
-  pub push-step : Open (pushNodes hd (m ∷ free) ns) {h = suc h} (under new-root top) x y free
+  pub push-step : Aside (pushNodes hd (m ∷ free) ns) {h = suc h} (under new-root top) x j y free
   push-step = record {
     few = rw (Kp .long) (O .few);
-    way = (rw er at (push-body hd ns (O .links) m free (firstOr free) crowns), tt, tt, tt);
+    way = (push-body ns (O .links) (header.rootOf hd) m (firstOr free) crowns ∙ ap (λ (k : ℕ). record { state = internal; pairs = []; edges = k ∷ [] }) er, tt, tt, tt);
     low = stands-kept _ _ _ _ Kp (suc h) x (λ q. omega (arith, O .once q)) (O .low);
-    high = stands-kept _ _ _ _ Kp (suc h) y (λ q. omega (arith, O .once q)) (O .high);
-    loose = loose-kept (suc h) y Kp (λ q. omega (arith, O .once q)) (O .loose);
+    high = stands-kept _ _ _ _ Kp j y (λ q. omega (arith, O .once q)) (O .high);
+    loose = loose-kept j y Kp (λ q. omega (arith, O .once q)) (O .loose);
     chain = chain-kept _ _ _ _ Kp free (λ q. omega (arith, O .once q)) (O .chain .1);
     rises = O .rises .1;
     links = Kp .links;
-    root = push-root hd ns (O .links) m free (firstOr free) crowns;
+    root = push-root ns (O .links) (header.rootOf hd) m (firstOr free) crowns;
     once = λ q. omega (arith, O .once q);
     within = λ q g. rw (Kp .long) (O .within q (omega arith));
     all = λ q g. omega (arith, O .all q (rw (Kp .long) at g));

@@ -15,7 +15,7 @@ use Rattle.slices.proofs.Laws.{insert-length}
 use Rattle.node.specs.Reading.{Within}
 use Rattle.node.proofs.Reading.{within, len-is}
 use Rattle.model.specs.Nodes.{taken}
-use Rattle.store.specs.Links.{Body, withBody, withEdges, fresh, takeNode, link, LinkReady, ReturnReady}
+use Rattle.store.specs.Links.{Body, withBody, withEdges, fresh, takeNode, link, LinkReady, ReturnReady, TakeReady}
 use Rattle.store.proofs.All.{all-insert, all-drop}
 use Rattle.store.proofs.Relink.{link-body}
 use Rattle.store.proofs.Chain.{head-is, long, take-in}
@@ -109,13 +109,14 @@ module _ {h : List ℕ} {ns : List NodeVal} {free : List ℕ} (q : PushReady h n
       let e = head-is a rootWord (lit< tt) in
       (long a, rw e (within a _ (q .root)), e, head-is a heightWord (lit< tt))
 
+module _ {h : List ℕ} {ns : List NodeVal} {free : List ℕ} (q : TakeReady h ns free) where
   pub top-edges : nth (takeNode ns free internal) (taken free) .edges ≡ []
-  top-edges = ap (λ (v : NodeVal). v .edges) (getD-set-same ns (taken free) (fresh internal) blank (take-in (q .take)))
+  top-edges = ap (λ (v : NodeVal). v .edges) (getD-set-same ns (taken free) (fresh internal) blank (take-in q))
 
-  -- the new root with its edge
+  -- the new node with its edge
   pub top-body : (c : ℕ) → set (takeNode ns free internal) (taken free) (withEdges (nth (takeNode ns free internal) (taken free)) (insertAt (nth (takeNode ns free internal) (taken free) .edges) 0 c)) ≡ set ns (taken free) (withEdges (fresh internal) (c ∷ []))
   unfolding insertAt
-  top-body c = rw (getD-set-same ns (taken free) (fresh internal) blank (take-in (q .take))) (set-set ns (taken free) (fresh internal) _)
+  top-body c = rw (getD-set-same ns (taken free) (fresh internal) blank (take-in q)) (set-set ns (taken free) (fresh internal) _)
 
 -- ---- a level taken off
 

@@ -41,9 +41,20 @@ heightOf h = header h heightWord
 abbrev pub withRoot : List ℕ → ℕ → ℕ → List ℕ
 withRoot h root height = set (set h rootWord root) heightWord height
 
--- put on: a new root above the old one, which is its only edge
-unfoldable pub pushNodes : List ℕ → List ℕ → List NodeVal → List NodeVal
-pushNodes h free ns = link (set ns (taken free) (withEdges (fresh internal) (rootOf h ∷ []))) (rootOf h) (taken free) 0
+-- a new node m above the node n, which hangs nowhere and is its only edge
+unfoldable pub crownNodes : List NodeVal → ℕ → ℕ → List NodeVal
+crownNodes ns m n = link (set ns m (withEdges (fresh internal) (n ∷ []))) n m 0
+
+pub record CrownReady (h : List ℕ) (ns : List NodeVal) (free : List ℕ) (n : ℕ) : Type 0 where
+  pub take : TakeReady h ns free
+  pub node : n < length ns
+
+abbrev pub Crownable : List ℕ → List NodeVal → ℕ → Type 0
+Crownable h ns n = (free : List ℕ) × CrownReady h ns free n
+
+-- put on: a new root above the old one
+abbrev pub pushNodes : List ℕ → List ℕ → List NodeVal → List NodeVal
+pushNodes h free ns = crownNodes ns (taken free) (rootOf h)
 
 abbrev pub pushHead : List ℕ → List ℕ → List ℕ
 pushHead h free = withRoot (takeHead h free) (taken free) (heightOf h + 1)

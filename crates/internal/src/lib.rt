@@ -25,7 +25,18 @@ ghost use Rattle.node.specs.Reading.{Has, pairOf};
 ghost use Rattle.model.specs.Nodes.{taken};
 ghost use Rattle.store.specs.Links.{takeHead};
 ghost use Rattle.leaf.specs.Split.{CutReady, Cuttable, Cut, splitNodes};
-ghost use Rattle.internal.specs.Inner.{Branches, FitReady, fitNodes, PushReady, Pushable, pushHead, pushNodes, PopReady, Poppable, popHead, popNodes};
+ghost use Rattle.internal.specs.Inner.{Branches, FitReady, fitNodes, CrownReady, Crownable, crownNodes, PushReady, Pushable, pushHead, pushNodes, PopReady, Poppable, popHead, popNodes};
+
+// Takes an internal node above a node that hangs nowhere, which becomes its only edge.
+pub fn new_internal(a: &mut [u64], child: NodeNo) -> NodeNo
+    requires { ⌜ Has (now a) (λ h ns. Crownable h ns (child .0)) ⌝ }
+    ensures { λ r. ⌜ ((h : List ℕ) (ns : List NodeVal) (free : List ℕ) → CrownReady h ns free (child .0) → Arena (now (a .entry)) h ns → (r .0 ≡ taken free) × Arena (now (a .exit)) (takeHead h free) (crownNodes ns (taken free) (child .0))) ⌝ }
+{
+    let top = take_node(a, INTERNAL);
+    insert_word(a, top, EDGES, 0, 0, child.0 as u64);
+    set_parent_link(a, child, top, Place(0));
+    top
+}
 
 // Puts a new root above the root, with the old one as its only edge.
 pub fn push_internal_level(a: &mut [u64]) -> NodeNo
@@ -34,9 +45,7 @@ pub fn push_internal_level(a: &mut [u64]) -> NodeNo
 {
     let old = NodeNo(a[ROOT] as usize);
     let height = a[HEIGHT] + 1;
-    let top = take_node(a, INTERNAL);
-    insert_word(a, top, EDGES, 0, 0, old.0 as u64);
-    set_parent_link(a, old, top, Place(0));
+    let top = new_internal(a, old);
     a[ROOT] = top.0 as u64;
     a[HEIGHT] = height;
     top

@@ -19,6 +19,9 @@ use Rattle.model.specs.Answer.{numbersOf}
 use Rattle.model.specs.State.{State, Order, formatted, order, list, restored, putCode, deleteCode, reserveCode}
 use Rattle.model.specs.Map.{range, rank, countOf, nth, picked}
 use Rattle.model.specs.Words.{wordsOfBy, wordsOf}
+use Rattle.model.specs.Load.{loaded, pushAll, begun}
+use Rattle.model.specs.Room.{nodesFor}
+use Rattle.model.specs.Parting.{cutOff}
 use Rattle.model.specs.Promise.{pairWords}
 
 -- ---- what a case does, and what is compared
@@ -225,3 +228,60 @@ formatted-2 = refl
 pub formatted-2-old : wordsOfBy Format1 (formatted 2) ≡ (1 ∷ 2 ∷ 10 ∷ 0 ∷ 0 ∷ 0 ∷ 1 ∷ 1 ∷ 0 ∷ 0 ∷ []) ++ ((1 ∷ 0 ∷ none ∷ replicate 35 0) ++ (0 ∷ 0 ∷ none ∷ replicate 35 0))
 unfolding wordsOfBy arenaBy nodeWordsBy frame pad
 formatted-2-old = refl
+
+-- ---- loads of the pairs 1, 2 .. : the free chain, the mark, each node
+
+abbrev runOf : ℕ → List Pair
+runOf n = map (λ k. record { key = k; val = k + 1000 }) (count 1 n)
+
+abbrev shown : State → List (List ℕ)
+shown s = s .free ∷ (seenOf (s .mark) ∷ markOf (s .mark) ∷ []) ∷ nodes (s .whole .height) (s .whole .root)
+
+pub load-none : shown (loaded 1 []) ≡ [] ∷ (0 ∷ 0 ∷ []) ∷ (0 ∷ []) ∷ []
+load-none = refl
+
+pub load-eleven : shown (loaded 3 (runOf 11)) ≡ (1 ∷ 2 ∷ []) ∷ (1 ∷ 11 ∷ []) ∷ (0 ∷ count 1 11) ∷ []
+load-eleven = refl
+
+pub load-twelve : shown (loaded 4 (runOf 12)) ≡ (3 ∷ []) ∷ (1 ∷ 12 ∷ []) ∷ (1 ∷ 7 ∷ []) ∷ (0 ∷ count 1 6) ∷ (2 ∷ count 8 5) ∷ []
+load-twelve = refl
+
+-- the 144th pair: new root 13, leaf 14, its parent 15
+abbrev loaded144 : State
+loaded144 = loaded 17 (runOf 144)
+
+abbrev among : ℕ → List ℕ → Bool
+among m [] = false
+among m (x ∷ xs) = cond (eqb m x) true (among m xs)
+
+-- the nodes with these numbers
+abbrev only : List ℕ → List (List ℕ) → List (List ℕ)
+only ns [] = []
+only ns ([] ∷ xs) = only ns xs
+only ns ((n ∷ ks) ∷ xs) = cond (among n ns) ((n ∷ ks) ∷ only ns xs) (only ns xs)
+
+pub load-144 : only (1 ∷ 12 ∷ 13 ∷ 14 ∷ 15 ∷ []) (nodes (loaded144 .whole .height) (loaded144 .whole .root))
+    ≡ (13 ∷ 84 ∷ []) ∷ (1 ∷ 12 ∷ 24 ∷ 36 ∷ 48 ∷ 60 ∷ 72 ∷ []) ∷ (15 ∷ 96 ∷ 108 ∷ 120 ∷ 132 ∷ 139 ∷ []) ∷ (12 ∷ count 133 6) ∷ (14 ∷ count 140 5) ∷ []
+load-144 = refl
+
+pub load-144-free : loaded144 .free ≡ 16 ∷ []
+load-144-free = refl
+
+-- how many nodes are taken
+pub nodes-taken : map (λ n. (pushAll (runOf n) begun) .next) (0 ∷ 1 ∷ 11 ∷ 12 ∷ 23 ∷ 24 ∷ 143 ∷ 144 ∷ []) ≡ 1 ∷ 1 ∷ 1 ∷ 3 ∷ 3 ∷ 4 ∷ 13 ∷ 16 ∷ []
+nodes-taken = refl
+
+pub nodes-for : map nodesFor (0 ∷ 1 ∷ 11 ∷ 12 ∷ 23 ∷ 24 ∷ 143 ∷ 144 ∷ 1727 ∷ 1728 ∷ []) ≡ 1 ∷ 1 ∷ 1 ∷ 3 ∷ 3 ∷ 4 ∷ 13 ∷ 16 ∷ 157 ∷ 161 ∷ []
+unfolding nodesFor
+nodes-for = refl
+
+-- ---- 1 to 12 in 1-6, 7, 8-12, cut above all keys, between, below all
+
+pub cut-13 : shown (cutOff 13 (loaded 3 (runOf 12))) ≡ [] ∷ (1 ∷ 12 ∷ []) ∷ (1 ∷ 6 ∷ []) ∷ (0 ∷ count 1 5) ∷ (2 ∷ count 7 6) ∷ []
+cut-13 = refl
+
+pub cut-9 : shown (cutOff 9 (loaded 3 (runOf 12))) ≡ (1 ∷ 2 ∷ []) ∷ (1 ∷ 12 ∷ []) ∷ (0 ∷ count 1 8) ∷ []
+cut-9 = refl
+
+pub cut-0 : shown (cutOff 0 (loaded 3 (runOf 12))) ≡ (1 ∷ 2 ∷ []) ∷ (1 ∷ 12 ∷ []) ∷ (0 ∷ []) ∷ []
+cut-0 = refl

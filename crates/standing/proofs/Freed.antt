@@ -19,7 +19,7 @@ use Rattle.store.specs.Links.{Body, bodyOf, firstFree, freeNodes, Frees, return
 use Rattle.store.proofs.Returns.{return-cases}
 use Rattle.store.proofs.Searches.{free-states}
 use Rattle.standing.specs.Kept.{Links, leads, Kept}
-use Rattle.standing.specs.Standing.{Stands, Way, Hole, Open}
+use Rattle.standing.specs.Standing.{Stands, Way, Hole, Aside}
 use Rattle.standing.proofs.Changes.{free-unled, kept-trans, kept-more, anew-kept}
 use Rattle.standing.proofs.Frames.{chain-kept}
 
@@ -77,8 +77,8 @@ hole-frees {ns} {h} c t free H hd ef en = record {
       (λ u. u);
 }
 
-pub open-frees : {ns : List NodeVal} {h : ℕ} (c : Ctx h) (x y : Tree h) (free : List ℕ) → Open ns c x y free → (hd : List ℕ) → firstFree hd ≡ firstOr free → freeNodes hd ≡ length free → Frees hd ns free
-open-frees {ns} {h} c x y free O hd ef en = record {
+pub open-frees : {ns : List NodeVal} {h : ℕ} (c : Ctx h) (x : Tree h) (j : ℕ) (y : Tree j) (free : List ℕ) → Aside ns c x j y free → (hd : List ℕ) → firstFree hd ≡ firstOr free → freeNodes hd ≡ length free → Frees hd ns free
+open-frees {ns} {h} c x j y free O hd ef en = record {
   few = O .few;
   first = ef;
   many = en;
@@ -86,9 +86,9 @@ open-frees {ns} {h} c x y free O hd ef en = record {
   inside = all-times (λ x. x < length ns) free (λ m u. O .within m (omega arith));
   rises = O .rises;
   only = λ q o z.
-      either ns q (hasCtx q c + (has q h x + has q h y)) (times q free) (1 ≤ times q free) (O .all q o)
-      (λ u. absurd (either ns q (hasCtx q c) (has q h x + has q h y) ⊥ u (λ v. omega (arith, live-way ns q c (rootNo h x) (O .way) v))
-      (λ v. either ns q (has q h x) (has q h y) ⊥ v (λ v. omega (arith, live-tree ns q h x (O .low) v)) (λ v. omega (arith, live-tree ns q h y (O .high) v)))))
+      either ns q (hasCtx q c + (has q h x + has q j y)) (times q free) (1 ≤ times q free) (O .all q o)
+      (λ u. absurd (either ns q (hasCtx q c) (has q h x + has q j y) ⊥ u (λ v. omega (arith, live-way ns q c (rootNo h x) (O .way) v))
+      (λ v. either ns q (has q h x) (has q j y) ⊥ v (λ v. omega (arith, live-tree ns q h x (O .low) v)) (λ v. omega (arith, live-tree ns q j y (O .high) v)))))
       (λ u. u);
 }
 

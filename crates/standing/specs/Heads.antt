@@ -31,14 +31,25 @@ abbrev pub topOf : {h : ℕ} → Ctx h → ℕ
 topOf (top {h = h}) = h
 topOf (under f c) = topOf c
 
--- the words are a tree with a hole that t fills, with true counts
-pub record HoleIn (w : List ℕ) (g : Rest) {h : ℕ} (c : Ctx h) (t : Tree h) (free : List ℕ) : Type 0 where
+-- the words are a tree with a hole that t fills; of the counts of its nodes P is known
+pub record HoleBy (P : List NodeVal → Type 0) (w : List ℕ) (g : Rest) {h : ℕ} (c : Ctx h) (t : Tree h) (free : List ℕ) : Type 0 where
   pub nodes : List NodeVal
   pub arena : Arena w (headWords g (rootOf c (rootNo h t)) (pred (topOf c)) free) nodes
   pub stand : Hole nodes c t free
   pub many : length nodes ≡ g .size
-  pub told : Totals nodes
+  pub told : P nodes
 
 -- they are a whole tree
+abbrev pub ClosedBy : (List NodeVal → Type 0) → List ℕ → Rest → Grown → Type 0
+ClosedBy P w g t = HoleBy P w g {h = t .whole .height} top (t .whole .root) (t .free)
+
+-- with true counts
+abbrev pub HoleIn : List ℕ → Rest → {h : ℕ} → Ctx h → Tree h → List ℕ → Type 0
+HoleIn w g c t free = HoleBy Totals w g c t free
+
 abbrev pub ClosedIn : List ℕ → Rest → Grown → Type 0
-ClosedIn w g t = HoleIn w g {h = t .whole .height} top (t .whole .root) (t .free)
+ClosedIn w g t = ClosedBy Totals w g t
+
+-- whatever the counts are
+abbrev pub Uncounted : List NodeVal → Type 0
+Uncounted ns = Unit {0}

@@ -86,20 +86,24 @@ abbrev pub Loose : List NodeVal → (h : ℕ) → Tree h → Type 0
 Loose ns zero t = Unit {0}
 Loose ns (suc h) t = nth ns (t .no) .parent ≡ none
 
--- a hole that x fills, and beside it the tree y, which no edge leads to yet
-pub record Open (ns : List NodeVal) {h : ℕ} (c : Ctx h) (x y : Tree h) (free : List ℕ) : Type 0 where
+-- a hole that x fills, and beside it the tree y of height j, which no edge leads to yet
+pub record Aside (ns : List NodeVal) {h : ℕ} (c : Ctx h) (x : Tree h) (j : ℕ) (y : Tree j) (free : List ℕ) : Type 0 where
   pub few : length ns ≤ largestCount
   pub way : Way ns c (rootNo h x)
   pub low : Stands ns h x
-  pub high : Stands ns h y
-  pub loose : Loose ns h y
+  pub high : Stands ns j y
+  pub loose : Loose ns j y
   pub chain : All (Written ns) (chainBlocks free)
   pub rises : Rises free
   pub links : Links ns
   pub root : linkOf (nth ns (rootOf c (rootNo h x))) ≡ atRoot
-  pub once : (m : ℕ) → counts m c (has m h x + has m h y) free ≤ 1
-  pub within : (m : ℕ) → 1 ≤ counts m c (has m h x + has m h y) free → m < length ns
-  pub all : (m : ℕ) → m < length ns → 1 ≤ counts m c (has m h x + has m h y) free
+  pub once : (m : ℕ) → counts m c (has m h x + has m j y) free ≤ 1
+  pub within : (m : ℕ) → 1 ≤ counts m c (has m h x + has m j y) free → m < length ns
+  pub all : (m : ℕ) → m < length ns → 1 ≤ counts m c (has m h x + has m j y) free
+
+-- of the hole's height
+abbrev pub Open : List NodeVal → {h : ℕ} → Ctx h → Tree h → Tree h → List ℕ → Type 0
+Open ns {h} c x y free = Aside ns c x h y free
 
 -- the nodes of a whole tree, and the free nodes
 abbrev pub Closed : List NodeVal → Whole → List ℕ → Type 0

@@ -11,7 +11,7 @@ use Rattle.model.specs.declared.Layout.the-variants.{Format1}
 use Rattle.model.specs.Layout.{headerSize, nodeSize, totalWord, baseBy, base}
 use Rattle.slices.specs.Words.{splice}
 use Rattle.slices.proofs.Laws.{take-on, lent, lent-out, splice-length}
-use Rattle.upgrade.specs.Counting.{copies}
+use Rattle.upgrade.specs.Copies.{copies}
 use lib.Seq.{take-all, take-suc, drop-cons, set-at, append-snoc, length-take-le}
 
 -- ---- a turn of the copy: one more word is the other's

@@ -1,5 +1,4 @@
 -- The files of this crate's laws.
 -- Assumes nothing.
-pub mod Counts
 pub mod Copied
 pub mod Upgraded

@@ -1,5 +1,6 @@
 // The upgrade: the words of a format 1 arena into a slice of format 2, the same nodes at the same numbers, and the counts below each node.
 use checker::well_formed_by;
+use counting::count_node;
 use model::Answer;
 use model::Layout;
 use node::COUNT;
@@ -7,24 +8,18 @@ use node::FORMAT;
 use node::HEADER;
 use node::HEIGHT;
 use node::NodeNo;
-use node::Place;
 use node::ROOT;
 use node::TOTAL;
 use node::WORDS;
-use node::edge;
-use node::len;
 use node::node_base;
-use totals::set_right;
 ghost use mathlib.Core.Path.{_≡_};
-ghost use mathlib.Core.List.{List, [], _∷_, _++_};
-ghost use Prim.Native.Nat.{ℕ, suc};
-ghost use lib.ListN.{length, take, drop, set};
+ghost use mathlib.Core.List.{[], _∷_, _++_};
+ghost use lib.ListN.{length, take, set};
 ghost use Rattle.model.specs.declared.Layout.the-variants.{Format1};
-ghost use Rattle.model.specs.Layout.{Sized, SizedBy, headerSize, nodeSize, formatNumber, formatWord, totalWord, NodeVal, Arena};
+ghost use Rattle.model.specs.Layout.{Sized, SizedBy, headerSize, nodeSize, formatNumber, formatWord, totalWord};
 ghost use Rattle.model.specs.Public.{Promised};
 ghost use Rattle.model.specs.Public as promise;
-ghost use Rattle.node.specs.Reading.{Has};
-ghost use Rattle.upgrade.specs.Counting.{copies, TreeIn, CountedIn, EdgesIn};
+ghost use Rattle.upgrade.specs.Copies.{copies};
 
 // Copies every word of as long a slice.
 fn copy_words(to: &mut [u64], from: &[u64])
@@ -82,33 +77,6 @@ fn copy_all(to: &mut [u64], from: &[u64], count: usize)
     let b = HEADER;
     copy_header(&mut to[0..b], &from[0..b]);
     copy_nodes(to, from, count);
-}
-
-// Sets the counts of a node and of all below it, which has so many levels below it.
-fn count_node(a: &mut [u64], n: NodeNo, below: usize)
-    requires { ⌜ Has (now a) (λ hd ns. TreeIn ns (n .0) below) ⌝ }
-    ensures { λ _. ⌜ ((hd : List ℕ) (ns : List NodeVal) (t : TreeIn ns (n .0) below) → Arena (now (a .entry)) hd ns → CountedIn (now (a .exit)) hd ns below (t .tree)) ⌝ }
-{
-    if below == 0 {
-        set_right(a, n);
-        return;
-    }
-    count_edges(a, n, below - 1);
-    set_right(a, n);
-}
-
-// The same of the nodes that its edges lead to.
-fn count_edges(a: &mut [u64], n: NodeNo, below: usize)
-    requires { ⌜ Has (now a) (λ hd ns. TreeIn ns (n .0) (suc below)) ⌝ }
-    ensures { λ _. ⌜ ((hd : List ℕ) (ns : List NodeVal) (t : TreeIn ns (n .0) (suc below)) → Arena (now (a .entry)) hd ns → EdgesIn (now (a .exit)) hd ns below (t .tree)) ⌝ }
-{
-    let m = len(a, n);
-    let mut i: usize = 0;
-    while i <= m {
-        let child = edge(a, n, Place(i));
-        count_node(a, child, below);
-        i += 1;
-    }
 }
 
 // The upgrade. The source is only read; the target's words do not matter, only how many there are.

@@ -6,7 +6,7 @@ use mathlib.Core.Path.{_≡_, refl, _∙_}
 use mathlib.Core.List.{_++_}
 use lib.ListN.{length, take}
 use Rattle.model.specs.Layout.{headerSize, nodeSize, totalWord, base}
-use Rattle.upgrade.specs.Counting.{copies}
+use Rattle.upgrade.specs.Copies.{copies}
 use Rattle.upgrade.proofs.Copied.{node-long, node-turn, nodes-begin, nodes-done}
 use borrow.Author.Needs.{needs}
 use Rattle.upgrade.proofs.copy_nodes.Statement.{statement}

@@ -4,23 +4,12 @@ use Prim.Native.Nat.{ℕ, zero, suc, _+_, _≤_, _<_}
 use mathlib.Core.Path.{_≡_}
 use mathlib.Core.List.{List, [], _∷_, _++_, map}
 use lib.ListN.{length}
-use Rattle.model.specs.Lists.{All, part}
-use Rattle.model.specs.declared.Layout.the-variants.{Format1}
-use Rattle.model.specs.Layout.{largestCount, baseBy, totalWord, NodeVal, nth, Arena}
+use Rattle.model.specs.Lists.{All}
+use Rattle.model.specs.Layout.{largestCount, NodeVal, nth, Arena}
 use Rattle.model.specs.Tree.{Item, Tree, flat, has}
 use Rattle.model.specs.Sound.{AllIn}
 use Rattle.standing.specs.Kept.{Links, Kept}
 use Rattle.standing.specs.Standing.{Stands}
-use Rattle.standing.specs.Totals.{withTotal}
-
--- the nodes with no counts
-abbrev pub bare : List NodeVal → List NodeVal
-bare = map (λ (v : NodeVal). withTotal v 0)
-
--- the words of the nodes from i on, k of them, of a format 1 arena, each with a count of 0
-abbrev pub copies : List ℕ → ℕ → ℕ → List ℕ
-copies w i zero = []
-copies w i (suc k) = (part w (baseBy Format1 i) totalWord ++ (0 ∷ [])) ++ copies w (suc i) k
 
 -- the count of every node of a tree is that of its pairs
 abbrev pub Right : List NodeVal → (h : ℕ) → Tree h → Type 0

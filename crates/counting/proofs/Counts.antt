@@ -1,34 +1,32 @@
 -- The walk that counts: the trees below a node in turn, then the node itself.
 -- Assumes nothing.
 use Prim.Native.Nat.{ℕ, zero, suc, _+_, _-_, _≤_, _<_}
-use native.Mathlib.Decide.{ℕ-discrete, decLt}
-use native.Mathlib.Numerals.{sub-one, add-one}
+use native.Mathlib.Numerals.{sub-one}
 use native.Mathlib.Omega.{arith}
 use mathlib.Core.Path.{_≡_, refl, sym, ap, ap₂, _∙_, subst}
 use mathlib.Core.List.{List, [], _∷_, _++_, map, append-assoc, append-nil}
 use lib.ListN.{length, getD, set, length-append, length-map}
-use Rattle.model.specs.Lists.{All, one, times}
-use Rattle.model.specs.Layout.{most, largestCount, edgesWord, lengthWord, wordAt, NodeVal, nth, blank, Arena}
-use Rattle.model.specs.Tree.{Pair, Item, Tree, flat, flats, has, hasIn}
+use Rattle.model.specs.Lists.{All, one}
+use Rattle.model.specs.Layout.{most, largestCount, edgesWord, lengthWord, wordAt, NodeVal, nth, Arena}
+use Rattle.model.specs.Tree.{Item, Tree, flat, flats, has, hasIn}
 use Rattle.model.specs.Words.{rootNo, kind}
 use Rattle.model.specs.Sound.{AllIn}
-use Rattle.model.proofs.Lists.{one-same, one-other}
+use Rattle.model.proofs.Lists.{one-same}
 use Rattle.node.specs.Reading.{Within, Has}
 use Rattle.node.proofs.Reading.{within, len-is, edge-is}
-use Rattle.store.specs.Links.{Body, bodyOf}
+use Rattle.store.specs.Links.{Body}
 use Rattle.balance.specs.Moves.{Shaped}
-use Rattle.standing.specs.Kept.{Links, Kept}
+use Rattle.standing.specs.Kept.{Links}
 use Rattle.standing.specs.Standing.{numbered, Stands}
-use Rattle.standing.specs.Totals.{totals, due, Totals, recount, putTotal}
+use Rattle.standing.specs.Totals.{totals, due, recount}
 use Rattle.standing.proofs.Leads.{one-self}
-use Rattle.standing.proofs.Totals.{past, put-other, put-same}
+use Rattle.standing.proofs.Totals.{put-other, put-same}
 use Rattle.standing.proofs.Frames.{stands-kept}
 use Rattle.standing.proofs.Changes.{kept-trans}
 use Rattle.shrinking.proofs.Steps.{shaped}
-use Rattle.totals.specs.Settling.{ample}
 use Rattle.totals.proofs.Settling.{flat-few, arena-small, put-kept}
 use Rattle.totals.proofs.Siblings.{SetCall}
-use Rattle.upgrade.specs.Counting.{Right, TreeIn, CountedIn, kids, hasAll, Upto, EdgesIn}
+use Rattle.counting.specs.Counting.{Right, TreeIn, CountedIn, kids, hasAll, Upto, EdgesIn}
 
 -- ---- a node whose children's counts are true
 
@@ -80,10 +78,10 @@ module _ {w hd : List ℕ} {ns : List NodeVal} (h : ℕ) (t : Tree (suc h)) (a :
   live : 1 ≤ nth ns (t .no) .state
   live = subst (λ (k : ℕ). 1 ≤ k) (sym (ap (λ (b : Body). b .state) (s .0))) (kind-live h)
 
-  pub node-right : (w′ : List ℕ) → SetCall w w′ (t .no) → CountedIn w′ hd ns h t
-  node-right w′ call = record {
+  pub node-right : (w′ : List ℕ) → Arena w′ hd (recount ns (t .no)) → CountedIn w′ hd ns h t
+  node-right w′ b = record {
     nodes = recount ns (t .no);
-    arena = call hd ns here a;
+    arena = b;
     same = put-kept ns L (t .no) (due ns (t .no)) live;
     others = λ m u. put-other ns (t .no) (due ns (t .no)) m (λ e. omega (arith, one-same (t .no) m (sym e)));
     right = (
@@ -246,13 +244,36 @@ gaps-right ns [] = tt
 gaps-right ns (x ∷ r) = (tt, gaps-right ns r)
 
 module _ {w hd : List ℕ} {ns : List NodeVal} {n : ℕ} (a : Arena w hd ns) where
-  pub leaf-due : (b : ℕ) → b ≡ 0 → TreeIn ns n b → Shaped ns n × (due ns n < 18446744073709551616)
-  leaf-due zero e K = subst (λ (q : ℕ). Shaped ns q × (due ns q < 18446744073709551616)) (K .node-is) (node-due 0 (K .tree) a (K .stands) (K .links) (K .few) (K .once) (K .within) tt (gaps-right ns (K .tree .rest)))
-  leaf-due (suc h) e K = absurd (omega arith)
+  pub leaf-tree : (b : ℕ) → b ≡ 0 → TreeIn ns n b → TreeIn ns n 0
+  leaf-tree b e K = subst (TreeIn ns n) e K
 
-  pub leaf-done : (b : ℕ) → b ≡ 0 → (K : TreeIn ns n b) → {w′ : List ℕ} → SetCall w w′ n → CountedIn w′ hd ns b (K .tree)
-  leaf-done zero e K {w′} call = node-right 0 (K .tree) a (K .stands) (K .links) (K .few) (K .once) (K .within) tt (gaps-right ns (K .tree .rest)) w′ (subst (SetCall w w′) (sym (K .node-is)) call)
+  pub leaf-done : (b : ℕ) → b ≡ 0 → (K : TreeIn ns n b) → {w′ : List ℕ} → CountCall w w′ n 0 → CountedIn w′ hd ns b (K .tree)
+  leaf-done zero e K call = call hd ns K a
   leaf-done (suc h) e K call = absurd (omega arith)
+
+  module _ (K : TreeIn ns n 0) where
+    leaf-in : n < length ns
+    leaf-in = subst (λ (q : ℕ). q < length ns) (K .node-is) (K .within (K .tree .no) (omega (arith, one-self (K .tree .no))))
+
+    pub leaf-known : Within w n × (n < length ns)
+    leaf-known = (within a n leaf-in, leaf-in)
+
+    -- it has no edges: its count is how many pairs it has
+    pub leaf-word : wordAt w n lengthWord ≡ due ns n
+    leaf-word =
+        let e : nth ns n .edges ≡ [] = ap (λ (q : ℕ). nth ns q .edges) (sym (K .node-is)) ∙ ap (λ (b : Body). b .edges) (K .stands .0) in
+        let t : totals ns (nth ns n .edges) ≡ 0 = ap (totals ns) e in
+        omega (arith, len-is a n leaf-in)
+
+    pub leaf-counted : (w′ : List ℕ) → Arena w′ hd (recount ns n) → CountedIn w′ hd ns 0 (K .tree)
+    leaf-counted w′ b = node-right 0 (K .tree) a (K .stands) (K .links) (K .few) (K .once) (K .within) tt (gaps-right ns (K .tree .rest)) w′ (subst (λ (q : ℕ). Arena w′ hd (recount ns q)) (sym (K .node-is)) b)
+
+  -- a parent of leaves
+  pub one-tree : (b : ℕ) → b ≡ 1 → TreeIn ns n b → TreeIn ns n 1
+  one-tree b e K = subst (TreeIn ns n) e K
+
+  pub edges-one : (b : ℕ) → b ≡ 1 → {w₁ : List ℕ} → EdgesCall w w₁ n 0 → EdgesCall w w₁ n (b - 1)
+  edges-one b e {w₁} call = let z : 0 ≡ b - 1 = omega arith in subst (λ (k : ℕ). EdgesCall w w₁ n k) z call
 
   pub inner-tree : (b : ℕ) → (b ≡ 0 → ⊥) → TreeIn ns n b → TreeIn ns n (suc (b - 1))
   inner-tree zero z K = absurd (z refl)
@@ -279,7 +300,7 @@ module _ {w hd : List ℕ} {ns : List NodeVal} {n : ℕ} (a : Arena w hd ns) whe
 
     at-done : {w₂ : List ℕ} → SetCall w₁ w₂ n → CountedIn w₂ hd ns (suc h) (K .tree)
     at-done {w₂} call =
-        let C = node-right (suc h) (K .tree) (E .arena) stands-now (E .same .links) few-now (K .once) within-now (E .right .0) rest-right w₂ (subst (SetCall w₁ w₂) (sym (K .node-is)) call) in
+        let C = node-right (suc h) (K .tree) (E .arena) stands-now (E .same .links) few-now (K .once) within-now (E .right .0) rest-right w₂ (subst (λ (q : ℕ). Arena w₂ hd (recount (E .nodes) q)) (sym (K .node-is)) (call hd (E .nodes) (at-due .0) (E .arena))) in
         record { nodes = C .nodes; arena = C .arena; same = kept-trans (E .same) (C .same); others = λ m z. C .others m z ∙ E .others m (omega (arith, in-kids m (suc h) (K .tree))); right = C .right }
 
   pub inner-due : (b : ℕ) → (b ≡ 0 → ⊥) → TreeIn ns n b → {w₁ : List ℕ} → EdgesCall w w₁ n (b - 1) → Has w₁ (λ hd ns. Shaped ns n × (due ns n < 18446744073709551616))

@@ -1,4 +1,4 @@
--- `upgrade::count_node` and `upgrade::count_edges`, which call each other, meet their contracts. The height falls: with h levels below
+-- `counting::count_node` and `counting::count_edges`, which call each other, meet their contracts. The height falls: with h levels below
 -- its node the first has the measure 2h, and the second, with h levels below its edges, 2h + 1.
 -- Assumes nothing.
 use Prim.Native.Nat.{ℕ, suc, _+_, _-_, _≤_, _<_}
@@ -7,22 +7,24 @@ use mathlib.Core.Path.{_≡_, refl, _∙_}
 use mathlib.Core.List.{List}
 use lib.ListN.{length}
 use Rattle.model.specs.Layout.{NodeVal, Arena}
-use Rattle.upgrade.specs.Counting.{TreeIn, Upto}
-use Rattle.upgrade.proofs.Counts.{none-yet, here-known, there, next-tree, next-done, all-done, leaf-due, leaf-done, inner-tree, inner-due, inner-done}
+use Rattle.counting.specs.Counting.{TreeIn, Upto}
+use Rattle.counting.proofs.Counts.{none-yet, here-known, there, next-tree, next-done, all-done, leaf-tree, leaf-done, one-tree, edges-one, inner-tree, inner-due, inner-done}
 use borrow.Author.Needs.{needs}
 use borrow.Fn.Kinds.{In}
 use borrow.Fn.PlainCycle.{Measures, is, falls, and}
-use Rattle.upgrade.proofs.count_edges.Reads as count-edges
-use Rattle.upgrade.proofs.count_edges.Kinds as count-edges-kinds
-use Rattle.upgrade.proofs.+count_edges+count_node.Lts-count_edges as count-edges-lts
-use Rattle.upgrade.proofs.count_node.Reads as count-node
-use Rattle.upgrade.proofs.count_node.Kinds as count-node-kinds
-use Rattle.upgrade.proofs.+count_edges+count_node.Lts-count_node as count-node-lts
+use Rattle.counting.proofs.count_edges.Reads as count-edges
+use Rattle.counting.proofs.count_edges.Kinds as count-edges-kinds
+use Rattle.counting.proofs.+count_edges+count_node.Lts-count_edges as count-edges-lts
+use Rattle.counting.proofs.count_node.Reads as count-node
+use Rattle.counting.proofs.count_node.Kinds as count-node-kinds
+use Rattle.counting.proofs.+count_edges+count_node.Lts-count_node as count-node-lts
 use Rattle.node.proofs.edge.Reads as edge-reads
 use Rattle.node.proofs.len.Reads as len-reads
 use Rattle.totals.proofs.set_right.Reads as set-right-reads
-use Rattle.upgrade.proofs.+count_edges+count_node.{statement}
-use Rattle.upgrade.proofs.+count_edges+count_node.Tie.{close}
+use Rattle.counting.proofs.count_leaf.Reads as count-leaf-reads
+use Rattle.counting.proofs.count_leaves.Reads as count-leaves-reads
+use Rattle.counting.proofs.+count_edges+count_node.{statement}
+use Rattle.counting.proofs.+count_edges+count_node.Tie.{close}
 
 abbrev μ-count-edges : Measures 1 count-edges-kinds.ps ℕ
 μ-count-edges κs a = a .1 .1 .0 + a .1 .1 .0 + 1
@@ -58,6 +60,10 @@ edges-claims t = (
 
 abbrev node-claims : ℕ → count-node-lts.Claims
 node-claims t = (
+  count-leaf-reads.Asked,
+  count-leaf-reads.Learnt,
+  count-leaves-reads.Asked,
+  count-leaves-reads.Learnt,
   set-right-reads.Asked,
   set-right-reads.Learnt,
   count-edges-below t,
@@ -120,36 +126,52 @@ count-edges-returns t c =
     let l = c .before in
     λ hd ns K a. all-done K a (l .loop .inv .2 hd ns K a) (omega (arith, c .loop-test .left, l .before .len .ensures, here-known K a .1))
 
-count-node-set-right-requires : (t : ℕ) → count-node-lts.Need-set-right-requires (node-claims t) (count-node-at t) count-node.Post
-count-node-set-right-requires t c κs =
+count-node-count-leaf-requires : (t : ℕ) → count-node-lts.Need-count-leaf-requires (node-claims t) (count-node-at t) count-node.Post
+count-node-count-leaf-requires t c κs =
     let q = c .before .before .before .pre .1 in
-    record { head = _; nodes = q .nodes; arena = q .arena; holds = leaf-due (q .arena) _ (c .before .if1 .taken) (q .holds) }
+    record { head = _; nodes = q .nodes; arena = q .arena; holds = leaf-tree (q .arena) _ (c .before .if1 .taken) (q .holds) }
 
 count-node-same-length : (t : ℕ) → count-node-lts.Need-same-length (node-claims t) (count-node-at t) count-node.Post
 count-node-same-length t c = search needs
 
 count-node-returns : (t : ℕ) → count-node-lts.Need-returns (node-claims t) (count-node-at t) count-node.Post
-count-node-returns t c = λ hd ns K a. leaf-done a _ (c .before .before .before .before .if1 .taken) K (c .before .before .set-right .ensures)
+count-node-returns t c = λ hd ns K a. leaf-done a _ (c .before .before .before .before .if1 .taken) K (c .before .before .count-leaf .ensures)
+
+count-node-count-leaves-requires : (t : ℕ) → count-node-lts.Need-count-leaves-requires (node-claims t) (count-node-at t) count-node.Post
+count-node-count-leaves-requires t c κs =
+    let q = c .before .before .before .before .pre .1 in
+    record { head = _; nodes = q .nodes; arena = q .arena; holds = one-tree (q .arena) _ (c .before .if2 .taken) (q .holds) }
+
+count-node-set-right-requires : (t : ℕ) → count-node-lts.Need-set-right-requires (node-claims t) (count-node-at t) count-node.Post
+count-node-set-right-requires t c κs =
+    let q = c .before .before .before .before .before .before .before .before .pre .1 in
+    inner-due (q .arena) _ (c .before .before .before .before .before .before .if1 .left) (q .holds) (edges-one (q .arena) _ (c .before .before .before .before .before .if2 .taken) (c .before .before .before .count-leaves .ensures))
+
+count-node-same-length-2 : (t : ℕ) → count-node-lts.Need-same-length-2 (node-claims t) (count-node-at t) count-node.Post
+count-node-same-length-2 t c = search needs
+
+count-node-returns-2 : (t : ℕ) → count-node-lts.Need-returns-2 (node-claims t) (count-node-at t) count-node.Post
+count-node-returns-2 t c = λ hd ns K a. inner-done a _ (c .before .before .before .before .before .before .before .before .before .if1 .left) K (edges-one a _ (c .before .before .before .before .before .before .before .before .if2 .taken) (c .before .before .before .before .before .before .count-leaves .ensures)) (c .before .before .set-right .ensures)
 
 count-node-sub-count-edges : (t : ℕ) → count-node-lts.Need-sub-count-edges (node-claims t) (count-node-at t) count-node.Post
 count-node-sub-count-edges t c = search needs
 
 count-node-count-edges-requires : (t : ℕ) → count-node-lts.Need-count-edges-requires (node-claims t) (count-node-at t) count-node.Post
 count-node-count-edges-requires t c κs =
-    let q = c .before .before .before .pre in
-    let z = c .before .if1 .left in
+    let q = c .before .before .before .before .pre in
+    let z = c .before .before .if1 .left in
     (omega (arith, q .0, z), record { head = _; nodes = q .1 .nodes; arena = q .1 .arena; holds = inner-tree (q .1 .arena) _ z (q .1 .holds) })
 
 count-node-set-right-requires-2 : (t : ℕ) → count-node-lts.Need-set-right-requires-2 (node-claims t) (count-node-at t) count-node.Post
 count-node-set-right-requires-2 t c κs =
-    let q = c .before .before .before .before .before .before .before .pre .1 in
-    inner-due (q .arena) _ (c .before .before .before .before .before .if1 .left) (q .holds) (c .before .before .before .count-edges .ensures)
+    let q = c .before .before .before .before .before .before .before .before .pre .1 in
+    inner-due (q .arena) _ (c .before .before .before .before .before .before .if1 .left) (q .holds) (c .before .before .before .count-edges .ensures)
 
-count-node-same-length-2 : (t : ℕ) → count-node-lts.Need-same-length-2 (node-claims t) (count-node-at t) count-node.Post
-count-node-same-length-2 t c = search needs
+count-node-same-length-3 : (t : ℕ) → count-node-lts.Need-same-length-3 (node-claims t) (count-node-at t) count-node.Post
+count-node-same-length-3 t c = search needs
 
-count-node-returns-2 : (t : ℕ) → count-node-lts.Need-returns-2 (node-claims t) (count-node-at t) count-node.Post
-count-node-returns-2 t c = λ hd ns K a. inner-done a _ (c .before .before .before .before .before .before .before .before .if1 .left) K (c .before .before .before .before .before .before .count-edges .ensures) (c .before .before .set-right2 .ensures)
+count-node-returns-3 : (t : ℕ) → count-node-lts.Need-returns-3 (node-claims t) (count-node-at t) count-node.Post
+count-node-returns-3 t c = λ hd ns K a. inner-done a _ (c .before .before .before .before .before .before .before .before .before .if1 .left) K (c .before .before .before .before .before .before .count-edges .ensures) (c .before .before .set-right2 .ensures)
 
 pub +count-edges+count-node-spec : {M : Type 1} → statement M
 +count-edges+count-node-spec = close μ-count-edges μ-count-node (λ t. count-edges-lts.spec (edges-claims t)
@@ -170,11 +192,15 @@ pub +count-edges+count-node-spec : {M : Type 1} → statement M
     (node-claims t)
     (count-node-at t)
     count-node.Post
-    (count-node-set-right-requires t)
+    (count-node-count-leaf-requires t)
     (count-node-same-length t)
     (count-node-returns t)
+    (count-node-count-leaves-requires t)
+    (count-node-set-right-requires t)
+    (count-node-same-length-2 t)
+    (count-node-returns-2 t)
     (count-node-sub-count-edges t)
     (count-node-count-edges-requires t)
     (count-node-set-right-requires-2 t)
-    (count-node-same-length-2 t)
-    (count-node-returns-2 t)
+    (count-node-same-length-3 t)
+    (count-node-returns-3 t)

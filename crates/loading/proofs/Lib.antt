@@ -1,0 +1,14 @@
+pub mod Runs
+pub mod Pushing
+pub mod Stocking
+pub mod Counting
+pub mod Loads
+pub mod Numbers
+pub mod Least
+pub mod Bridges
+pub mod Parting
+pub mod Chain
+pub mod Cuts
+pub mod Plain
+pub mod Merging
+pub mod Joins
