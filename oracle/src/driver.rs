@@ -19,6 +19,7 @@ mod ffi;
 mod histories;
 #[cfg(inner)]
 mod inner;
+mod joins;
 mod loads;
 mod nightly;
 mod ours;
@@ -54,6 +55,7 @@ fn main() {
     let mut run = || -> Result<(), String> {
         refusals::all(&mut totals)?;
         loads::all(&mut totals, fault, scale)?;
+        joins::all(&mut totals, fault, scale)?;
         shapes::two_and_three_leaves(&mut totals, fault)?;
         shapes::two_and_three_inner(&mut totals, fault, scale)?;
         shapes::smallest_and_full(&mut totals, fault)?;

@@ -32,10 +32,12 @@ pub enum Fault {
     Count,
     /// The mark of a load is its first key.
     First,
+    /// A join writes the first's value of a key in both.
+    Own,
 }
 
 impl Fault {
-    pub const NAMES: [&str; 10] = ["value", "kept", "chain", "halves", "more", "twice", "meant", "itself", "count", "first"];
+    pub const NAMES: [&str; 11] = ["value", "kept", "chain", "halves", "more", "twice", "meant", "itself", "count", "first", "own"];
 
     pub fn named(name: &str) -> Option<Fault> {
         Some(match name {
@@ -49,6 +51,7 @@ impl Fault {
             "itself" => Fault::Itself,
             "count" => Fault::Count,
             "first" => Fault::First,
+            "own" => Fault::Own,
             _ => return None,
         })
     }
@@ -93,6 +96,10 @@ pub struct Totals {
     pub loads: u64,
     pub loaded: u64,
     pub not_loaded: u64,
+    /// Joins held against BTreeMap::append and bulk_push, and their pairs; and how many were refused.
+    pub joins: u64,
+    pub joined: u64,
+    pub not_joined: u64,
     /// Border repairs, forks and steps along pairs, where they can be called.
     pub borders: u64,
     pub forks: u64,
@@ -134,6 +141,7 @@ impl fmt::Display for Totals {
         writeln!(f, "reserves around the mark, by the rule alone: {}", self.reserves)?;
         writeln!(f, "ranks, counts and pairs at a rank, by the plain list: {}; upgrades of format 1: {}", self.ranks, self.upgrades)?;
         writeln!(f, "loads {}, of {} pairs; refused {}", self.loads, self.loaded, self.not_loaded)?;
+        writeln!(f, "joins {}, of {} pairs; refused {}", self.joins, self.joined, self.not_joined)?;
         if cfg!(inner) {
             writeln!(f, "border repairs {}, forks {}, steps along pairs {}", self.borders, self.forks, self.steps)?;
         }

@@ -4,11 +4,11 @@ use crate::ffi::{Picked, Said};
 use std::fmt;
 
 /// Why a call was refused. A refused call has changed no word. Where several would fit, the first of BadSize, BadArena,
-/// BadImage, Older, BadRange, BadOrder, NotRising, NoRoom or Spent is given; only the upgrade has BadSize behind BadArena.
+/// BadImage, Older, BadRange, BadOrder, NotRising, NoRoom or Spent is given; only the upgrade and the join have BadSize behind BadArena.
 #[derive(Clone, Copy, Debug, Eq, Hash, PartialEq)]
 #[non_exhaustive]
 pub enum Error {
-    /// 3: the insertion of an absent key, or a load, lacks nodes.
+    /// 3: the insertion of an absent key, a load, or a join lacks nodes.
     NoRoom,
     /// 4: the words are not a well-formed arena of format 2; of format 1, in the upgrade.
     BadArena,

@@ -28,7 +28,7 @@
 //! A listing walks over the pairs that it writes.
 //!
 //! Pairs that are in order already, as after a migration, are not put one by one: [`Index::load`] fills the nodes from the left, each to
-//! its 11 pairs, and checks nothing but the run.
+//! its 11 pairs, and checks nothing but the run. So does [`Index::append`] with the pairs of two indexes, behind the checks of both.
 //!
 //! # Formats
 //!
@@ -612,6 +612,55 @@ impl<W: Words> Index<W> {
     fn header(&self, at: usize) -> Result<u64, Error> {
         self.check()?;
         self.words.words().get(at).copied().ok_or(Error::BadArena)
+    }
+
+    /// Moves all pairs of another index into this one, as `BTreeMap::append` does: of a key in both, the other's value stays. The mark is the
+    /// larger of both marks; the other index is empty then, and keeps its own. Both are walked over in order, and this one is loaded
+    /// anew, so that it holds the pairs in [`nodes_for`] as many nodes. The pairs are written out as words on the way;
+    /// [`append_words`](Index::append_words) takes the slice for that.
+    ///
+    /// # Errors
+    /// [`Error::BadArena`] for either; [`Error::NoRoom`] if this index has fewer nodes than the pairs of both take. No word has changed then.
+    ///
+    /// ```
+    /// use cuffgarnet::{Error, Index};
+    /// let mut a = Index::loaded([(1, 10), (2, 20), (3, 30)], 4)?;
+    /// let mut b = Index::loaded([(3, 31), (4, 40)], 1)?;
+    /// a.append(&mut b)?;
+    /// assert_eq!((a.len()?, a.get(3)?, a.mark()?), (4, Some(31), Some(4)));
+    /// assert_eq!((b.len()?, b.mark()?), (0, Some(4)));
+    /// # Ok::<(), Error>(())
+    /// ```
+    pub fn append<V: Words>(&mut self, other: &mut Index<V>) -> Result<(), Error> {
+        let pairs = self.told_pairs().saturating_add(other.told_pairs());
+        self.append_words(other, &mut vec![0; pairs.saturating_mul(2)])
+    }
+
+    /// The same with a slice for the joined pairs, key and value in turn from its first word on; further words of it stay.
+    ///
+    /// # Errors
+    /// As [`append`](Index::append), and behind [`Error::BadArena`] also [`Error::BadSize`] if the slice has fewer than two words for each pair
+    /// of both, a key in both counted twice.
+    ///
+    /// ```
+    /// use cuffgarnet::{Error, Index};
+    /// let mut a = Index::loaded([(1, 10), (3, 30)], 1)?;
+    /// let mut b = Index::loaded([(3, 31)], 1)?;
+    /// let mut run = [7; 8];
+    /// assert_eq!(a.append_words(&mut b, &mut run[..5]), Err(Error::BadSize));
+    /// a.append_words(&mut b, &mut run)?;
+    /// assert_eq!(run, [1, 10, 3, 31, 7, 7, 7, 7]);
+    /// # Ok::<(), Error>(())
+    /// ```
+    pub fn append_words<V: Words>(&mut self, other: &mut Index<V>, run: &mut [u64]) -> Result<(), Error> {
+        error::done(ffi::join(self.words.words_mut(), other.words.words_mut(), run))
+    }
+
+    /// The pair count that the header tells, not checked, and no more than there are words.
+    fn told_pairs(&self) -> usize {
+        let words = self.words.words();
+        let told = words.get(PAIRS).copied().unwrap_or(0);
+        usize::try_from(told).unwrap_or(usize::MAX).min(words.len())
     }
 
     /// How many pairs there are.

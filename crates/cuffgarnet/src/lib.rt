@@ -5,6 +5,7 @@ use batch::order;
 use checker::check;
 use checker::well_formed;
 use format::format;
+use join::join;
 use listing::list;
 use load::load;
 use map::delete;
@@ -285,5 +286,14 @@ pub extern "C" fn cuffgarnet_load(arena: &mut [u64], run: &[u64]) -> u64
     ensures { λ r. ⌜ Numbered (Promised (promise.load (now (run .entry))) (now (arena .entry)) (now (arena .exit)) tt) r ⌝ }
 {
     let made = load(arena, run);
+    made.number()
+}
+
+// Joins a second arena to the first; the joined run is written to a third slice.
+#[no_mangle]
+pub extern "C" fn cuffgarnet_join(first: &mut [u64], second: &mut [u64], run: &mut [u64]) -> u64
+    ensures { λ r. ⌜ Numbered (Promised (promise.join (now (second .entry)) (now (run .entry))) (now (first .entry)) (now (first .exit)) (now (second .exit), now (run .exit))) r ⌝ }
+{
+    let made = join(first, second, run);
     made.number()
 }

@@ -24,7 +24,7 @@ use Rattle.model.proofs.Forward.{forward}
 use Rattle.demands.specs.Plain.{Plain, empty, bringing, Made, Spent, Raises, Spending}
 use Rattle.demands.specs.Stored.{held}
 use Rattle.demands.specs.Call.{Speech, Call, given, made, Unchanged, Refused, Did, ByMap}
-use Rattle.demands.specs.Public.{Public, format, check, get, put, delete, reserve, order, list, rank, count, at, batch, restore, upgrade, load}
+use Rattle.demands.specs.Public.{Public, format, check, get, put, delete, reserve, order, list, rank, count, at, batch, restore, upgrade, load, cutFirst, cutSecond, joinFirst, joinSecond}
 use Rattle.demands.specs.History.{Turn, Run, Standing, after, afterAll, Kept, NotLower}
 use Rattle.demands.specs.Demands.{AsTheMap, AnyHistory, OneEnd}
 use Rattle.model.proofs.Header.{header-is, seen-is, mark-is, mark-by, stored-mark}
@@ -33,6 +33,7 @@ use Rattle.model.proofs.Ends.{both-ways}
 use Rattle.demands.proofs.Marks.{spending-none, spending-more, mark-raises, NotBelow, not-below}
 use Rattle.demands.proofs.Lawful.{allRefused, Lawful}
 use Rattle.demands.proofs.Calls as calls
+use Rattle.demands.proofs.Both as both
 
 -- ---- every public call is lawful
 
@@ -52,6 +53,10 @@ lawful _ (at i) = calls.at-lawful i
 lawful _ (restore m i) = calls.restore-lawful m i
 lawful _ (upgrade w) = calls.upgrade-lawful w
 lawful _ (load run) = calls.load-lawful run
+lawful _ (cutFirst k v) = both.cut-first-lawful k v
+lawful _ (cutSecond k w) = both.cut-second-lawful k w
+lawful _ (joinFirst v o) = both.join-first-lawful v o
+lawful _ (joinSecond w o) = both.join-second-lawful w o
 
 pub as-the-map : AsTheMap
 as-the-map c p = (lawful c p) .by-map
@@ -93,6 +98,13 @@ module _ (c : Call) (v : Lawful c) (w w′ : List ℕ) (l : c .promise .Lent) (r
       (λ (x : (c .speech .refused r ≡ true) × Unchanged c w w′ l). x .1)
       (λ (x : (c .speech .refused r ≡ false) × Did c w w′ l r). both-ways e (x .0))
       (call-ended d)
+
+-- what is said to be no refusal was done
+pub accepted : (c : Call) → Public c → (w w′ : List ℕ) (l : c .promise .Lent) (r : c .promise .Said) → c .promise .ends w w′ l r → c .speech .refused r ≡ false → Did c w w′ l r
+accepted c p w w′ l r d e = ⊎-elim
+    (λ (x : (c .speech .refused r ≡ true) × Unchanged c w w′ l). both-ways (x .0) e)
+    (λ (x : (c .speech .refused r ≡ false) × Did c w w′ l r). x .1)
+    (call-ended c (lawful c p) w w′ l r d)
 
 -- ---- what well-formed words say of their nodes
 

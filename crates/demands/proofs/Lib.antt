@@ -4,4 +4,6 @@ pub mod Steps
 pub mod Marks
 pub mod Lawful
 pub mod Calls
+pub mod Both
 pub mod Every
+pub mod Joins

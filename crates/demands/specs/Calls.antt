@@ -1,6 +1,6 @@
 -- The public calls, each as one record.
 -- Assumes nothing.
-use Prim.Native.Nat.{ℕ, zero, _<_, min}
+use Prim.Native.Nat.{ℕ, zero, _+_, _*_, _<_, min}
 use mathlib.Core.Path.{_≡_}
 use mathlib.Core.Bool.{true, false, Bool}
 use mathlib.Core.Logic.{_⊎_}
@@ -21,6 +21,8 @@ use Rattle.model.specs.Map.{look, range, rank as rankOf, nth, picked, Panics}
 use Rattle.model.specs.Answer.{numbersOf}
 use Rattle.model.specs.State.{State, Order, Kind, putting, getting, deleting, reserving, unknown, kindOf, triples}
 use Rattle.model.specs.Load.{pairsOf, lastMark}
+use Rattle.model.specs.Plain.{lower, upper}
+use Rattle.model.specs.Merge.{merge}
 use Rattle.model.specs.WellFormed.{WellFormed}
 use Rattle.model.specs.Promise.{Refusal, badSize, badArenaBy, badArena, badImage, older, AnyCount, Holds, Fits, room, laid, Loadable, notRising, noNodes}
 use Rattle.model.specs.Public as promise
@@ -264,4 +266,63 @@ load run = record {
   does = λ rooms p. let ps = pairsOf run in record { said = Done; plain = record { pairs = ps; mark = lastMark ps }; spent = bringing (lastMark ps) };
   leaves = λ w w′ l. Unit {0};
   begins = true;  -- whatever the slice held
+}
+
+-- ---- cut: the pairs below the key stay in the first arena, with its mark; the second slice begins a history with the others, and with that mark too
+
+abbrev pub cutRefusals : ℕ → (first second : List ℕ) → List Refusal
+cutRefusals k w v = badSize (AnyCount (length v) → ⊥) ∷ badArena w ∷ noNodes (upper k (stored w)) v ∷ []
+
+abbrev pub cutFirst : (key : ℕ) (second : List ℕ) → Call
+cutFirst k v = record {
+  promise = promise.cut k v;
+  speech = inAnswer;
+  refusals = λ w. cutRefusals k w v;
+  rooms = λ r l. [];
+  does = λ rooms p. record { said = Done; plain = record { pairs = lower k (p .pairs); mark = p .mark }; spent = [] };
+  leaves = λ w w′ v′. WellFormed v′ × (held v′ ≡ record { pairs = upper k (stored w); mark = storedMark w });
+  begins = false;
+}
+
+abbrev pub cutSecond : (key : ℕ) (first : List ℕ) → Call
+cutSecond k w = record {
+  promise = promise.cutSecond k w;
+  speech = inAnswer;
+  refusals = λ v. cutRefusals k w v;
+  rooms = λ r l. [];
+  does = λ rooms p. record { said = Done; plain = record { pairs = upper k (stored w); mark = storedMark w }; spent = bringing (storedMark w) };
+  leaves = λ v v′ w′. WellFormed w′ × (held w′ ≡ record { pairs = lower k (stored w); mark = storedMark w });
+  begins = true;
+}
+
+-- ---- join: the first arena has the pairs of both, the second's where a key is in both, and the larger of the marks seen; the second has none and keeps its mark;
+-- the pairs are written to the third slice
+
+abbrev pub joinRefusals : (first second third : List ℕ) → List Refusal
+joinRefusals w v o =
+    badArena w ∷ badArena v
+    ∷ badSize (length o < 2 * (length (stored w) + length (stored v)))
+    ∷ noNodes (merge (stored w) (stored v)) w
+    ∷ []
+
+abbrev pub joinFirst : (second third : List ℕ) → Call
+joinFirst v o = record {
+  promise = promise.join v o;
+  speech = inAnswer;
+  refusals = λ w. joinRefusals w v o;
+  rooms = λ r l. [];
+  does = λ rooms p. record { said = Done; plain = record { pairs = merge (p .pairs) (stored v); mark = higher (p .mark) (storedMark v) }; spent = bringing (storedMark v) };
+  leaves = λ w w′ l. WellFormed (l .0) × (held (l .0) ≡ record { pairs = []; mark = storedMark v }) × (l .1 ≡ laid (merge (stored w) (stored v)) o);
+  begins = false;
+}
+
+abbrev pub joinSecond : (first third : List ℕ) → Call
+joinSecond w o = record {
+  promise = promise.joinSecond w o;
+  speech = inAnswer;
+  refusals = λ v. joinRefusals w v o;
+  rooms = λ r l. [];
+  does = λ rooms p. record { said = Done; plain = record { pairs = []; mark = p .mark }; spent = [] };
+  leaves = λ v v′ l. WellFormed (l .0) × (held (l .0) ≡ record { pairs = merge (stored w) (stored v); mark = higher (storedMark w) (storedMark v) }) × (l .1 ≡ laid (merge (stored w) (stored v)) o);
+  begins = false;
 }

@@ -34,7 +34,7 @@ use Rattle.listing.specs.Written.{Lays}
 
 -- ---- pairs laid over words
 
-words-length : (ps : List Pair) → length (pairWords ps) ≡ 2 * length ps
+pub words-length : (ps : List Pair) → length (pairWords ps) ≡ 2 * length ps
 words-length [] = refl
 words-length (p ∷ ps) = omega (arith, words-length ps)
 
@@ -46,7 +46,7 @@ pub laid-none : (o : List ℕ) → o ≡ laid [] o
 unfolding laid
 laid-none o = refl
 
-laid-more : (ps : List Pair) (p : Pair) (o : List ℕ) (n : ℕ) → length ps ≡ n → 2 * n + 2 ≤ length o → set (set (laid ps o) (2 * n) (p .key)) (2 * n + 1) (p .val) ≡ laid (ps ++ p ∷ []) o
+pub laid-more : (ps : List Pair) (p : Pair) (o : List ℕ) (n : ℕ) → length ps ≡ n → 2 * n + 2 ≤ length o → set (set (laid ps o) (2 * n) (p .key)) (2 * n + 1) (p .val) ≡ laid (ps ++ p ∷ []) o
 unfolding laid
 laid-more ps p o n e l =
     ap (λ (j : ℕ). set (set (pairWords ps ++ drop (2 * j) o) (2 * n) (p .key)) (2 * n + 1) (p .val)) e

@@ -56,7 +56,7 @@ module _ (a b c : State) (oa : Sound a) (ob : Sound b) (oc : Sound c) where
 
 -- ---- a cut, then a join
 
-higher-same : (m : Mark) → higher m m ≡ m
+pub higher-same : (m : Mark) → higher m m ≡ m
 higher-same unseen = refl
 higher-same (seen k) = ap seen (let e : max k k ≡ k = omega arith in e)
 

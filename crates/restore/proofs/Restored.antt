@@ -37,13 +37,13 @@ copied l m i h g = rw (take-all i m g, drop-of-length-le l {i = i} h) (append-ni
 
 -- ---- the mark's words
 
-seen-higher : (m n : Mark) → seenOf (higher m n) ≡ max (seenOf m) (seenOf n)
+pub seen-higher : (m n : Mark) → seenOf (higher m n) ≡ max (seenOf m) (seenOf n)
 seen-higher unseen unseen = omega arith
 seen-higher unseen (seen b) = omega arith
 seen-higher (seen a) unseen = omega arith
 seen-higher (seen a) (seen b) = omega arith
 
-mark-higher : (m n : Mark) → markOf (higher m n) ≡ max (markOf m) (markOf n)
+pub mark-higher : (m n : Mark) → markOf (higher m n) ≡ max (markOf m) (markOf n)
 mark-higher unseen unseen = omega arith
 mark-higher unseen (seen b) = omega arith
 mark-higher (seen a) unseen = omega arith
