@@ -29,14 +29,14 @@ extern "C" {
  * changed, but for the words of the answer (`second` and the like), which are written at every call and are then 0. Where several
  * would fit, the first of 7, 4, 8, 12, 5, 6, 10, 3 or 11 is given; only cuffgarnet_upgrade and cuffgarnet_join have 7 behind 4. */
 enum cuffgarnet_answer {
-    CUFFGARNET_DONE = 0,      /* put a new key; reserved; formatted; loaded; checked; listed; counted; restored; upgraded; joined; batch run */
+    CUFFGARNET_DONE = 0,      /* put a new key; reserved; formatted; loaded; checked; listed; counted; restored; upgraded; cut; joined; batch run */
     CUFFGARNET_VALUE = 1,     /* get: found; put: replaced; delete: removed; the second word is the (former) value. at: there */
     CUFFGARNET_ABSENT = 2,    /* get or delete: no such key; at: no pair at that rank */
-    CUFFGARNET_NO_ROOM = 3,   /* put of an absent key, a load, or a join lacks nodes */
+    CUFFGARNET_NO_ROOM = 3,   /* put of an absent key, a load, a cut or a join lacks nodes */
     CUFFGARNET_BAD_ARENA = 4, /* the words are not a well-formed arena of format 2 (docs/RULES.md); of format 1, in upgrade */
     CUFFGARNET_BAD_RANGE = 5, /* start above end; or equal and both excluded; or a kind of bound that is none */
     CUFFGARNET_BAD_ORDER = 6, /* an order's code is not 1, 2, 3 or 4 */
-    CUFFGARNET_BAD_SIZE = 7,  /* a length that cannot be: see format, load, batch, restore, upgrade and join */
+    CUFFGARNET_BAD_SIZE = 7,  /* a length that cannot be: see format, load, batch, restore, upgrade, cut and join */
     CUFFGARNET_BAD_IMAGE = 8, /* the image is not a well-formed arena */
     CUFFGARNET_NOT_RISING = 10, /* the keys of a run that was to be loaded do not rise strictly */
     CUFFGARNET_SPENT = 11,    /* reserve of a key that is not above the mark */
@@ -147,6 +147,12 @@ uint64_t cuffgarnet_upgrade(const uint64_t *source, uint64_t source_n, uint64_t 
  * empty. 0; 7 if run_n is odd, or n is not 10 + 39 N for an N of 1 to 1,048,575; then 10 if the keys do not rise strictly; then 3 if N
  * is less than cuffgarnet_nodes_for(run_n / 2). The run does not change. */
 uint64_t cuffgarnet_load(uint64_t *arena, uint64_t n, const uint64_t *run, uint64_t run_n);
+
+/* Cuts the pairs with keys from key on off the arena. They go into the upper_n words of upper, which are formatted for them and end as a
+ * load of them leaves its words; whatever they held is forgotten. Both have the arena's mark then. 0; 7 if upper_n is not 10 + 39 N for an N of
+ * 1 to 1,048,575; then 4 if the arena is not well-formed; then 3 if that N is less than cuffgarnet_nodes_for the pairs that go. The arena needs
+ * no free node, and cuffgarnet_rank tells before how many pairs stay. */
+uint64_t cuffgarnet_cut(uint64_t *arena, uint64_t n, uint64_t key, uint64_t *upper, uint64_t upper_n);
 
 /* Joins the second arena to the first. The first then holds the pairs of both, the second's value where a key is in both, in the words that a
  * load of them leaves; its mark is the larger of the marks seen. The second ends as formatted, with its own mark. The pairs are also written to

@@ -280,6 +280,25 @@ impl<'s> Map<'s> {
         w
     }
 
+    /// The words of so many nodes, of which all that this map has not are free.
+    pub fn words_alone(&self, count: usize, seen: u64, mark: u64) -> Vec<u64> {
+        let mut w = vec![0; HEADER + WORDS * count];
+        let top = self.top().expect("a map with a root");
+        self.write(top, &mut w);
+        let chain: Vec<u64> = (0..count as u64).filter(|n| words::node(&w, *n)[words::STATE] == 0).collect();
+        words::write_header(&mut w, count, self.number(top), top.height() as u64, self.length as u64, &chain, seen, mark);
+        w
+    }
+
+    /// The pairs from a key on leave the map. The nodes that they take with them stay in use.
+    pub fn split_off(&mut self, key: u64) {
+        let alloc = self.slab.alloc();
+        if let Some(root) = &mut self.root {
+            let upper = root.split_off(&key, alloc);
+            self.length = Root::calc_split_length(self.length, root, &upper).0;
+        }
+    }
+
     fn write(&self, node: Node<'_>, w: &mut [u64]) {
         let n = self.number(node);
         let base = HEADER + WORDS * n as usize;

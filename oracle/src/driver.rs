@@ -15,6 +15,7 @@ mod boxed {
 }
 
 mod btree;
+mod cuts;
 mod ffi;
 mod histories;
 #[cfg(inner)]
@@ -55,6 +56,7 @@ fn main() {
     let mut run = || -> Result<(), String> {
         refusals::all(&mut totals)?;
         loads::all(&mut totals, fault, scale)?;
+        cuts::all(&mut totals, fault, scale)?;
         joins::all(&mut totals, fault, scale)?;
         shapes::two_and_three_leaves(&mut totals, fault)?;
         shapes::two_and_three_inner(&mut totals, fault, scale)?;

@@ -10,17 +10,17 @@ use crate::slab::Slab;
 use crate::source::Random;
 use crate::words;
 
-type Run = Vec<(u64, u64)>;
+pub type Run = Vec<(u64, u64)>;
 
 /// An arena made by orders of all kinds, and its pairs.
-struct Arena {
-    words: Vec<u64>,
-    pairs: BTreeMap<u64, u64>,
+pub struct Arena {
+    pub words: Vec<u64>,
+    pub pairs: BTreeMap<u64, u64>,
 }
 
 impl Arena {
     /// So many orders with keys below a number, into so many nodes; most are puts.
-    fn made(count: usize, orders: u64, below: u64, random: &mut Random) -> Result<Arena, String> {
+    pub fn made(count: usize, orders: u64, below: u64, random: &mut Random) -> Result<Arena, String> {
         let mut words = vec![7; words::long(count)];
         let number = ours::format(&mut words);
         let orders: Vec<[u64; 3]> = (0..orders)
@@ -44,12 +44,12 @@ impl Arena {
         Ok(Arena { words, pairs })
     }
 
-    fn count(&self) -> usize {
+    pub fn count(&self) -> usize {
         (self.words.len() - words::HEADER) / words::WORDS
     }
 
     /// Seen and mark.
-    fn mark(&self) -> (u64, u64) {
+    pub fn mark(&self) -> (u64, u64) {
         (self.words[words::SEEN], self.words[words::MARK])
     }
 }
@@ -73,7 +73,7 @@ fn joined(first: &Arena, second: &Arena) -> Result<Run, String> {
 }
 
 /// How many nodes bulk_push takes.
-fn taken(run: &Run) -> usize {
+pub fn taken(run: &Run) -> usize {
     let slab = Slab::new(run.len() / 5 + 2);
     Map::load(&slab, run);
     slab.traffic().0 as usize

@@ -2,7 +2,7 @@
 
 use crate::ffi;
 /// `raw_batch`: of any words, whole orders or not.
-pub use crate::ffi::{batch as raw_batch, check, format, join, load, restore, upgrade};
+pub use crate::ffi::{batch as raw_batch, check, cut, format, join, load, restore, upgrade};
 
 /// The call of an order's own; there is none for an unknown code.
 pub fn single(a: &mut [u64], [code, key, value]: [u64; 3]) -> (u64, u64) {

@@ -32,12 +32,14 @@ pub enum Fault {
     Count,
     /// The mark of a load is its first key.
     First,
+    /// The mark of the second after a cut is its last key.
+    Forgotten,
     /// A join writes the first's value of a key in both.
     Own,
 }
 
 impl Fault {
-    pub const NAMES: [&str; 11] = ["value", "kept", "chain", "halves", "more", "twice", "meant", "itself", "count", "first", "own"];
+    pub const NAMES: [&str; 12] = ["value", "kept", "chain", "halves", "more", "twice", "meant", "itself", "count", "first", "forgotten", "own"];
 
     pub fn named(name: &str) -> Option<Fault> {
         Some(match name {
@@ -51,6 +53,7 @@ impl Fault {
             "itself" => Fault::Itself,
             "count" => Fault::Count,
             "first" => Fault::First,
+            "forgotten" => Fault::Forgotten,
             "own" => Fault::Own,
             _ => return None,
         })
@@ -96,6 +99,10 @@ pub struct Totals {
     pub loads: u64,
     pub loaded: u64,
     pub not_loaded: u64,
+    /// Cuts held against split_off and bulk_push, and the pairs that went; and how many were refused.
+    pub cuts: u64,
+    pub cut_off: u64,
+    pub not_cut: u64,
     /// Joins held against BTreeMap::append and bulk_push, and their pairs; and how many were refused.
     pub joins: u64,
     pub joined: u64,
@@ -141,6 +148,7 @@ impl fmt::Display for Totals {
         writeln!(f, "reserves around the mark, by the rule alone: {}", self.reserves)?;
         writeln!(f, "ranks, counts and pairs at a rank, by the plain list: {}; upgrades of format 1: {}", self.ranks, self.upgrades)?;
         writeln!(f, "loads {}, of {} pairs; refused {}", self.loads, self.loaded, self.not_loaded)?;
+        writeln!(f, "cuts {}, of {} pairs; refused {}", self.cuts, self.cut_off, self.not_cut)?;
         writeln!(f, "joins {}, of {} pairs; refused {}", self.joins, self.joined, self.not_joined)?;
         if cfg!(inner) {
             writeln!(f, "border repairs {}, forks {}, steps along pairs {}", self.borders, self.forks, self.steps)?;

@@ -8,7 +8,7 @@ use std::fmt;
 #[derive(Clone, Copy, Debug, Eq, Hash, PartialEq)]
 #[non_exhaustive]
 pub enum Error {
-    /// 3: the insertion of an absent key, a load, or a join lacks nodes.
+    /// 3: the insertion of an absent key, a load, a cut or a join lacks nodes.
     NoRoom,
     /// 4: the words are not a well-formed arena of format 2; of format 1, in the upgrade.
     BadArena,

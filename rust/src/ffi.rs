@@ -43,6 +43,7 @@ unsafe extern "C" {
     fn cuffgarnet_restore(arena: *mut u64, n: u64, image: *const u64, image_n: u64, older: u64) -> u64;
     fn cuffgarnet_upgrade(source: *const u64, source_n: u64, target: *mut u64, target_n: u64) -> u64;
     fn cuffgarnet_load(arena: *mut u64, n: u64, run: *const u64, run_n: u64) -> u64;
+    fn cuffgarnet_cut(arena: *mut u64, n: u64, key: u64, upper: *mut u64, upper_n: u64) -> u64;
     fn cuffgarnet_join(
         first: *mut u64,
         first_n: u64,
@@ -179,6 +180,11 @@ pub fn upgrade(source: &[u64], target: &mut [u64]) -> u64 {
 
 pub fn load(arena: &mut [u64], run: &[u64]) -> u64 {
     unsafe { cuffgarnet_load(arena.as_mut_ptr(), arena.len() as u64, run.as_ptr(), run.len() as u64) }
+}
+
+pub fn cut(first: &mut [u64], second: &mut [u64], key: u64) -> u64 {
+    let (a, n) = (first.as_mut_ptr(), first.len() as u64);
+    unsafe { cuffgarnet_cut(a, n, key, second.as_mut_ptr(), second.len() as u64) }
 }
 
 pub fn join(first: &mut [u64], second: &mut [u64], run: &mut [u64]) -> u64 {

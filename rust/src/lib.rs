@@ -614,6 +614,28 @@ impl<W: Words> Index<W> {
         self.words.words().get(at).copied().ok_or(Error::BadArena)
     }
 
+    /// Cuts off the pairs with keys from this one on, as `BTreeMap::split_off` does: they go into these words, which are the answered index
+    /// then. What the words held does not matter. Both indexes have this one's mark afterwards. The pairs that go are loaded, so that they take
+    /// [`nodes_for`] as many nodes; [`rank`](Index::rank) tells before how many stay.
+    ///
+    /// # Errors
+    /// [`Error::BadSize`] if there are not 10 + 39 N words for an N of 1 to 1,048,575; then [`Error::BadArena`]; then [`Error::NoRoom`] if the nodes
+    /// of the words are too few. No word has changed then.
+    ///
+    /// ```
+    /// use cuffgarnet::{Error, Index};
+    /// let mut index = Index::loaded([(1, 10), (2, 20), (5, 50)], 4)?;
+    /// let mut words = [0; 49];
+    /// let upper = index.split_off(2, &mut words[..])?;
+    /// assert_eq!((index.len()?, index.get(1)?, index.mark()?), (1, Some(10), Some(5)));
+    /// assert_eq!((upper.len()?, upper.get(5)?, upper.mark()?), (2, Some(50), Some(5)));
+    /// # Ok::<(), Error>(())
+    /// ```
+    pub fn split_off<V: Words>(&mut self, key: u64, mut words: V) -> Result<Index<V>, Error> {
+        error::done(ffi::cut(self.words.words_mut(), words.words_mut(), key))?;
+        Ok(Index { words })
+    }
+
     /// Moves all pairs of another index into this one, as `BTreeMap::append` does: of a key in both, the other's value stays. The mark is the
     /// larger of both marks; the other index is empty then, and keeps its own. Both are walked over in order, and this one is loaded
     /// anew, so that it holds the pairs in [`nodes_for`] as many nodes. The pairs are written out as words on the way;

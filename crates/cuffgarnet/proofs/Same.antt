@@ -11,9 +11,9 @@ use Rattle.model.specs.declared.Picked.{Picked}
 use Rattle.model.specs.declared.Range.{Range}
 use Rattle.model.specs.Answer.{numbersOf}
 use Rattle.model.specs.State.{State, Reply}
-use Rattle.model.specs.Promise.{Call, Format, Batch, Restore, Listing, Rank, AtRank, Upgrade, Load, Join, badArena, badRangeOf}
+use Rattle.model.specs.Promise.{Call, Format, Batch, Restore, Listing, Rank, AtRank, Upgrade, Load, Cut, Join, badArena, badRangeOf}
 use Rattle.model.specs.Map.{rank, countOf}
-use Rattle.model.proofs.Unique.{one-end, one-call, one-format, one-listing, one-tell, one-at, one-batch, one-restore, one-load, one-join}
+use Rattle.model.proofs.Unique.{one-end, one-call, one-format, one-listing, one-tell, one-at, one-batch, one-restore, one-load, one-cut, one-join}
 use Rattle.model.proofs.Upgrades.{one-upgrade}
 use Rattle.cuffgarnet.specs.declared.Bound.{Bound}
 use Rattle.cuffgarnet.specs.declared.Bound.the-variants.{Known, Unknown}
@@ -99,6 +99,9 @@ same-upgrade w v x y = let e = one-upgrade w v (x .given) (y .given) in (e .0, o
 
 pub same-load : (run w : List ℕ) {w₁ w₂ : List ℕ} {n m : ℕ} → Numbered (Load run w w₁) n → Numbered (Load run w w₂) m → (w₁ ≡ w₂) × (n ≡ m)
 same-load run w x y = let e = one-load run w (x .given) (y .given) in (e .0, one-number x y (e .1))
+
+pub same-cut : (k : ℕ) (w v : List ℕ) {w₁ w₂ v₁ v₂ : List ℕ} {n m : ℕ} → Numbered (Cut k w w₁ v v₁) n → Numbered (Cut k w w₂ v v₂) m → (w₁ ≡ w₂) × (v₁ ≡ v₂) × (n ≡ m)
+same-cut k w v x y = let e = one-cut k w v (x .given) (y .given) in (e .0, e .1, one-number x y (e .2))
 
 pub same-join : (w v o : List ℕ) {w₁ w₂ v₁ v₂ o₁ o₂ : List ℕ} {n m : ℕ} → Numbered (Join w w₁ v v₁ o o₁) n → Numbered (Join w w₂ v v₂ o o₂) m → (w₁ ≡ w₂) × (v₁ ≡ v₂) × (o₁ ≡ o₂) × (n ≡ m)
 same-join w v o x y = let e = one-join w v o (x .given) (y .given) in (e .0, e .1, e .2, one-number x y (e .3))

@@ -4,6 +4,7 @@ use batch::batch;
 use batch::order;
 use checker::check;
 use checker::well_formed;
+use cut::cut;
 use format::format;
 use join::join;
 use listing::list;
@@ -286,6 +287,15 @@ pub extern "C" fn cuffgarnet_load(arena: &mut [u64], run: &[u64]) -> u64
     ensures { λ r. ⌜ Numbered (Promised (promise.load (now (run .entry))) (now (arena .entry)) (now (arena .exit)) tt) r ⌝ }
 {
     let made = load(arena, run);
+    made.number()
+}
+
+// Cuts the pairs from a key on off the first arena, into a second slice.
+#[no_mangle]
+pub extern "C" fn cuffgarnet_cut(arena: &mut [u64], key: u64, upper: &mut [u64]) -> u64
+    ensures { λ r. ⌜ Numbered (Promised (promise.cut key (now (upper .entry))) (now (arena .entry)) (now (arena .exit)) (now (upper .exit))) r ⌝ }
+{
+    let made = cut(arena, upper, key);
     made.number()
 }
 

@@ -28,7 +28,7 @@ pub enum Head {
 }
 
 // The pair right of a leaf edge.
-fn peek(a: &[u64], from: Handle) -> Head
+pub fn peek(a: &[u64], from: Handle) -> Head
     requires { ⌜ In (now a) (λ s. EdgeAt s from) ⌝ }
     ensures { λ r. ⌜ ((s : State) → Holds (now (a .entry)) s → (y : EdgeAt s from) → HeadOf s (after (y .way)) r) ⌝ }
 {

@@ -58,7 +58,7 @@ fn left_of(a: &[u64], node: NodeNo, at: Place) -> u64
 }
 
 // How many pairs are before the first that a start bound admits. The child's bound replaces the bound on the way down.
-fn passed(a: &[u64], start: SearchBound) -> u64
+pub fn passed(a: &[u64], start: SearchBound) -> u64
     requires { ⌜ WellFormed (now a) ⌝ }
     ensures { λ r. ⌜ ((s : State) → Holds (now (a .entry)) s → r ≡ length (before (sink (starts start) (s .whole .height) top (s .whole .root)))) ⌝ }
 {
