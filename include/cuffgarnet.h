@@ -5,7 +5,7 @@
  * Every call is proved: for any words that it is lent, what it returns and what every lent word holds when it ends
  * (crates/cuffgarnet/src/lib.rt). The caller's part, which no proof can see, is what Rust's references ask:
  *   - a pointer is aligned for uint64_t, and as many words as its length says may be read, and written unless const;
- *   - a pointer to one word (`second`, `written`, `more`, and `key` and `value` of cuffgarnet_at) is never NULL; a slice of
+ *   - a pointer to one word (`second`, `written`, `more`, and `key` and `value` of cuffgarnet_at and of the cursor calls) is never NULL; a slice of
  *     length 0 may have any pointer, NULL too;
  *   - words that a call writes overlap no other words lent to the same call, and nobody else touches them meanwhile.
  *
@@ -26,18 +26,21 @@ extern "C" {
 #endif
 
 /* The numbers that calls return, and that a batch writes for each order. From 3 on they are refusals: no lent word has
- * changed, but for the words of the answer (`second` and the like), which are written at every call and are then 0. Where several
- * would fit, the first of 7, 4, 8, 12, 5, 6, 10, 3 or 11 is given; only cuffgarnet_upgrade and cuffgarnet_join have 7 behind 4. */
+ * changed, but for the words of the answer (`second` and the like), which are written at every call and are then 0, and a cursor that
+ * cuffgarnet_first, _last or _seek was to make. Where several would fit, the first of 7, 4, 8, 12, 5, 9, 6, 10, 3 or 11 is given; only
+ * cuffgarnet_upgrade and cuffgarnet_join have 7 behind 4. */
 enum cuffgarnet_answer {
     CUFFGARNET_DONE = 0,      /* put a new key; reserved; formatted; loaded; checked; listed; counted; restored; upgraded; cut; joined; batch run */
-    CUFFGARNET_VALUE = 1,     /* get: found; put: replaced; delete: removed; the second word is the (former) value. at: there */
-    CUFFGARNET_ABSENT = 2,    /* get or delete: no such key; at: no pair at that rank */
+    CUFFGARNET_VALUE = 1,     /* get: found; put: replaced; delete: removed; the second word is the (former) value. at: there;
+                               * a cursor call: at a pair */
+    CUFFGARNET_ABSENT = 2,    /* get or delete: no such key; at: no pair at that rank; a cursor call: the end was reached */
     CUFFGARNET_NO_ROOM = 3,   /* put of an absent key, a load, a cut or a join lacks nodes */
     CUFFGARNET_BAD_ARENA = 4, /* the words are not a well-formed arena of format 2 (docs/RULES.md); of format 1, in upgrade */
     CUFFGARNET_BAD_RANGE = 5, /* start above end; or equal and both excluded; or a kind of bound that is none */
     CUFFGARNET_BAD_ORDER = 6, /* an order's code is not 1, 2, 3 or 4 */
-    CUFFGARNET_BAD_SIZE = 7,  /* a length that cannot be: see format, load, batch, restore, upgrade, cut and join */
+    CUFFGARNET_BAD_SIZE = 7,  /* a length that cannot be: see format, load, batch, restore, upgrade, cut, join and the cursor calls */
     CUFFGARNET_BAD_IMAGE = 8, /* the image is not a well-formed arena */
+    CUFFGARNET_STALE_CURSOR = 9, /* a step: the count is not the cursor's, or its place holds no pair and is no end */
     CUFFGARNET_NOT_RISING = 10, /* the keys of a run that was to be loaded do not rise strictly */
     CUFFGARNET_SPENT = 11,    /* reserve of a key that is not above the mark */
     CUFFGARNET_OLDER = 12     /* restore of an image with a lower mark, without the word that an older one is meant */
@@ -52,6 +55,15 @@ enum cuffgarnet_bound {
 
 /* The word of cuffgarnet_restore that an older image is meant. Every other word is a no. */
 #define CUFFGARNET_OLDER_IS_MEANT 1u
+
+/* A cursor is four words that the caller keeps: the count of changes that it was made or moved with, where it stands, its node and its
+ * place there. At an end node and place are written 0 and not read. */
+#define CUFFGARNET_CURSOR_WORDS 4u
+enum cuffgarnet_stand {
+    CUFFGARNET_BEFORE = 0, /* before the first pair */
+    CUFFGARNET_ON = 1,     /* on the pair at a place of a node */
+    CUFFGARNET_PAST = 2    /* past the last pair */
+};
 
 /* The codes of a batch's orders. */
 enum cuffgarnet_code {
@@ -123,6 +135,30 @@ uint64_t cuffgarnet_count(const uint64_t *arena, uint64_t n, uint64_t start_kind
 /* The pair at a rank, the smallest key's being 0. 1 with key and value; 2 with 0 and 0 if there are no more than `rank` pairs; 4 with
  * 0 and 0. Changes nothing. Behind the check it costs one way down the tree. */
 uint64_t cuffgarnet_at(const uint64_t *arena, uint64_t n, uint64_t rank, uint64_t *key, uint64_t *value);
+
+/* The walking cursor. The caller keeps a count of changes, raises it after each call that changes the arena, and passes it to every
+ * cursor call; a cursor keeps the count that it was made or moved with. cursor_n is 4, any other length is 7 before everything, with
+ * no word of the cursor written. Behind that and 4 each call answers 1 with key and value, or 2 with 0 and 0 where there is no pair
+ * that way. The arena is only read, and checked whole at every call: who reads much takes cuffgarnet_list.
+ *
+ * First, last and seek make a cursor, whatever its words were: at the first pair, at the last one, at the first that a start bound admits
+ * (5, behind 4, for a kind that is none). Finding none, or refused with 4 or 5, first and seek leave it past the last pair, last before
+ * the first: the four words are then written too. */
+uint64_t cuffgarnet_first(const uint64_t *arena, uint64_t n, uint64_t changes, uint64_t *cursor, uint64_t cursor_n,
+                          uint64_t *key, uint64_t *value);
+uint64_t cuffgarnet_last(const uint64_t *arena, uint64_t n, uint64_t changes, uint64_t *cursor, uint64_t cursor_n,
+                         uint64_t *key, uint64_t *value);
+uint64_t cuffgarnet_seek(const uint64_t *arena, uint64_t n, uint64_t changes, uint64_t kind, uint64_t bound,
+                         uint64_t *cursor, uint64_t cursor_n, uint64_t *key, uint64_t *value);
+
+/* Next and previous step to the neighbouring pair, from the cursor's place and with no search from the root. 9 exactly if the counts
+ * differ, or the cursor's place holds no pair and is no end (no such node, a free one, a place past its length, a word `where` above
+ * 2). A refused step leaves the cursor's words. A step past an end stays there; the opposite step returns to the end pair, in an empty tree
+ * to the other end. */
+uint64_t cuffgarnet_next(const uint64_t *arena, uint64_t n, uint64_t changes, uint64_t *cursor, uint64_t cursor_n,
+                         uint64_t *key, uint64_t *value);
+uint64_t cuffgarnet_previous(const uint64_t *arena, uint64_t n, uint64_t changes, uint64_t *cursor, uint64_t cursor_n,
+                             uint64_t *key, uint64_t *value);
 
 /* Runs orders in turn, three words each: code, key, value. Each gets two words of answers, its number and second word,
  * as the single call would answer; a refused one does not stop the rest. 0; 7 if orders_n is no multiple of 3 or

@@ -71,6 +71,21 @@ int main(void) {
     number = cuffgarnet_at(arena, N, 3, &key, &value);
     say("key at rank 3", number, key);
 
+    /* the retention job walks from the newest message down: the changes so far are counted as 0, a step with another count is refused */
+    uint64_t cursor[CUFFGARNET_CURSOR_WORDS];
+    number = cuffgarnet_last(arena, N, 0, cursor, CUFFGARNET_CURSOR_WORDS, &key, &value);
+    say("cursor at the last key", number, key);
+    number = cuffgarnet_previous(arena, N, 0, cursor, CUFFGARNET_CURSOR_WORDS, &key, &value);
+    say("previous", number, key);
+    number = cuffgarnet_previous(arena, N, 1, cursor, CUFFGARNET_CURSOR_WORDS, &key, &value);
+    say("previous, another count", number, key);
+    number = cuffgarnet_previous(arena, N, 0, cursor, CUFFGARNET_CURSOR_WORDS, &key, &value);
+    say("previous", number, key);
+    number = cuffgarnet_previous(arena, N, 0, cursor, CUFFGARNET_CURSOR_WORDS, &key, &value);
+    say("previous", number, key);
+    number = cuffgarnet_next(arena, N, 0, cursor, CUFFGARNET_CURSOR_WORDS, &key, &value);
+    say("next", number, key);
+
     say("restore", cuffgarnet_restore(arena, N, image, N, 0), 0);
     say("restore, an older one is meant", cuffgarnet_restore(arena, N, image, N, CUFFGARNET_OLDER_IS_MEANT), 0);
     list_all();

@@ -26,7 +26,9 @@ fn one_range(totals: &mut Totals, pair: &mut Pair<'_>, source: &mut Source) -> R
     let (start, end) = source.range(&pair.rust);
     let long = source.random.below(60) as usize;
     pair.list(totals, start, end, long)?;
-    pair.ranks(totals, start, end)
+    pair.ranks(totals, start, end)?;
+    // each step checks the arena: all pairs of a small one, some of a large one
+    pair.walk(totals, start, if pair.ours.len() < 1000 { usize::MAX } else { 12 })
 }
 
 /// A history of batches, all words compared after each; now and then an image is kept, and restored later: over what the history became, or

@@ -65,6 +65,13 @@ impl<'s> Nightly<'s> {
         Some((pairs, all.next().is_some()))
     }
 
+    /// What its iterator gives, both ways: rising from a start bound on, and all of it falling.
+    pub fn walks(&self, start: End) -> (Vec<(u64, u64)>, Vec<(u64, u64)>) {
+        let pair = |(k, v): (&u64, &u64)| (*k, *v);
+        let rising = self.map.range::<u64, (Bound<u64>, Bound<u64>)>((start, Bound::Unbounded)).map(pair).collect();
+        (rising, self.map.iter().rev().map(pair).collect())
+    }
+
     /// Each pair in order: key, value, node, place in the node.
     pub fn places(&self) -> Vec<(u64, u64, u64, u64)> {
         let place = |(k, v): (&u64, &u64)| {

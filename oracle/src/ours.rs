@@ -54,3 +54,30 @@ pub fn at(a: &[u64], rank: u64) -> (u64, u64, u64) {
     let picked = ffi::at(a, rank);
     (picked.number, picked.key, picked.value)
 }
+
+/// What a cursor call answers: its number, key and value. The cursor's words are written.
+pub type Found = (u64, u64, u64);
+
+pub fn first(a: &[u64], changes: u64, cursor: &mut [u64]) -> Found {
+    found(ffi::first(a, changes, cursor))
+}
+
+pub fn last(a: &[u64], changes: u64, cursor: &mut [u64]) -> Found {
+    found(ffi::last(a, changes, cursor))
+}
+
+pub fn seek(a: &[u64], changes: u64, start: (u64, u64), cursor: &mut [u64]) -> Found {
+    found(ffi::seek(a, changes, start, cursor))
+}
+
+pub fn next(a: &[u64], changes: u64, cursor: &mut [u64]) -> Found {
+    found(ffi::next(a, changes, cursor))
+}
+
+pub fn previous(a: &[u64], changes: u64, cursor: &mut [u64]) -> Found {
+    found(ffi::previous(a, changes, cursor))
+}
+
+fn found(picked: ffi::Picked) -> Found {
+    (picked.number, picked.key, picked.value)
+}

@@ -36,10 +36,12 @@ pub enum Fault {
     Forgotten,
     /// A join writes the first's value of a key in both.
     Own,
+    /// A step of a cursor is made twice.
+    Twofold,
 }
 
 impl Fault {
-    pub const NAMES: [&str; 12] = ["value", "kept", "chain", "halves", "more", "twice", "meant", "itself", "count", "first", "forgotten", "own"];
+    pub const NAMES: [&str; 13] = ["value", "kept", "chain", "halves", "more", "twice", "meant", "itself", "count", "first", "forgotten", "own", "twofold"];
 
     pub fn named(name: &str) -> Option<Fault> {
         Some(match name {
@@ -55,6 +57,7 @@ impl Fault {
             "first" => Fault::First,
             "forgotten" => Fault::Forgotten,
             "own" => Fault::Own,
+            "twofold" => Fault::Twofold,
             _ => return None,
         })
     }
@@ -107,6 +110,8 @@ pub struct Totals {
     pub joins: u64,
     pub joined: u64,
     pub not_joined: u64,
+    /// Moves of a cursor, held against the Rust's iterator.
+    pub moves: u64,
     /// Border repairs, forks and steps along pairs, where they can be called.
     pub borders: u64,
     pub forks: u64,
@@ -150,6 +155,7 @@ impl fmt::Display for Totals {
         writeln!(f, "loads {}, of {} pairs; refused {}", self.loads, self.loaded, self.not_loaded)?;
         writeln!(f, "cuts {}, of {} pairs; refused {}", self.cuts, self.cut_off, self.not_cut)?;
         writeln!(f, "joins {}, of {} pairs; refused {}", self.joins, self.joined, self.not_joined)?;
+        writeln!(f, "moves of a cursor, by the Rust's iterator: {}", self.moves)?;
         if cfg!(inner) {
             writeln!(f, "border repairs {}, forks {}, steps along pairs {}", self.borders, self.forks, self.steps)?;
         }
@@ -403,6 +409,63 @@ impl<'s> Pair<'s> {
         totals.upgrades += 1;
         if number != 0 || target != self.ours {
             return Err(format!("upgrade of the same arena in format 1: {number}"));
+        }
+        Ok(())
+    }
+
+    /// A cursor beside the Rust's iterator: from a start bound on and back again, so many steps each, then with another count, which is
+    /// refused; and all pairs falling, if there are no more than that. Its words say where the Rust has the pair.
+    pub fn walk(&mut self, totals: &mut Totals, start: (u64, u64), most: usize) -> Result<(), String> {
+        let at: BTreeMap<u64, (u64, u64)> = self.rust.map.places().into_iter().map(|(k, _, node, place)| (k, (node, place))).collect();
+        let (rising, falling) = self.rust.walks(end(start.0, start.1));
+        let mut cursor = vec![9; 4];
+        let mut said = ours::seek(&self.ours, 3, start, &mut cursor);
+        let shown = |pair: Option<&(u64, u64)>, end: u64| match pair {
+            Some((k, v)) => ((1, *k, *v), vec![3, 1, at[k].0, at[k].1]),
+            None => ((2, 0, 0), vec![3, end, 0, 0]),
+        };
+        for i in 0..=rising.len().min(most) {
+            totals.moves += 1;
+            if (said, cursor.clone()) != shown(rising.get(i), 2) {
+                return Err(format!("from {start:?}, move {i}: {said:?}, cursor {cursor:?}"));
+            }
+            if i == rising.len().min(most) {
+                break;
+            }
+            said = ours::next(&self.ours, 3, &mut cursor);
+            if self.due(totals, Fault::Twofold) {
+                said = ours::next(&self.ours, 3, &mut cursor);
+            }
+        }
+        for i in (0..rising.len().min(most)).rev() {
+            said = ours::previous(&self.ours, 3, &mut cursor);
+            totals.moves += 1;
+            if (said, cursor.clone()) != shown(rising.get(i), 0) {
+                return Err(format!("from {start:?}, back at {i}: {said:?}, cursor {cursor:?}"));
+            }
+        }
+        let kept = cursor.clone();
+        for step in [ours::next, ours::previous] {
+            said = step(&self.ours, 4, &mut cursor);
+            totals.moves += 1;
+            if said != (9, 0, 0) || cursor != kept {
+                return Err(format!("a step with another count: {said:?}, cursor {cursor:?}, before {kept:?}"));
+            }
+        }
+        if falling.len() <= most {
+            said = ours::last(&self.ours, 3, &mut cursor);
+            for i in 0..=falling.len() {
+                totals.moves += 1;
+                if (said, cursor.clone()) != shown(falling.get(i), 0) {
+                    return Err(format!("falling, move {i}: {said:?}, cursor {cursor:?}"));
+                }
+                said = ours::previous(&self.ours, 3, &mut cursor);
+            }
+            said = ours::next(&self.ours, 3, &mut cursor);
+            let mut anew = vec![0; 4];
+            if (said, cursor) != (ours::first(&self.ours, 3, &mut anew), anew) {
+                return Err("from before the first pair to it".into());
+            }
         }
         Ok(())
     }

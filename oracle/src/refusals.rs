@@ -182,6 +182,8 @@ fn short(totals: &mut Totals) -> Result<(), String> {
             return Err(format!("from {start:?} to {end:?} a listing says {said:?}, a count {count:?}"));
         }
     }
+    // a seek with such a bound
+    cursors(&whole, 5)?;
     Ok(())
 }
 
@@ -342,6 +344,39 @@ fn upgrade(totals: &mut Totals, source: &[u64], near: usize) -> Result<(), Strin
     Ok(())
 }
 
+/// The cursor calls on an arena that all of them refuse with this number, or whose bound is of no kind: first and seek stand past the last
+/// pair, last before the first, a step leaves the words; a cursor of another length comes before that, and stays.
+fn cursors(w: &[u64], number: u64) -> Result<(), String> {
+    type Call = fn(&[u64], u64, &mut [u64]) -> ours::Found;
+    let first = |stand| vec![5, stand, 0, 0];
+    let calls: [(Call, Vec<u64>); 6] = [
+        (ours::first, first(2)),
+        (ours::last, first(0)),
+        (|a, n, c| ours::seek(a, n, (1, 7), c), first(2)),
+        (|a, n, c| ours::seek(a, n, (3, 0), c), first(2)),
+        (ours::next, vec![5, 1, 9, 9]),
+        (ours::previous, vec![5, 1, 9, 9]),
+    ];
+    for (i, (call, left)) in calls.into_iter().enumerate() {
+        if number == 5 && i != 3 {
+            continue;
+        }
+        let mut cursor = vec![5, 1, 9, 9];
+        let said = call(w, 5, &mut cursor);
+        if said != (number, 0, 0) || cursor != left {
+            return Err(format!("cursor call {i} says {said:?} and leaves {cursor:?}"));
+        }
+        for long in [0, 3, 5] {
+            let mut cursor = vec![9; long];
+            let said = call(w, 5, &mut cursor);
+            if said != (7, 0, 0) || cursor != vec![9; long] {
+                return Err(format!("cursor call {i} on {long} words says {said:?} and leaves {cursor:?}"));
+            }
+        }
+    }
+    Ok(())
+}
+
 /// Every call on words that may be no arena; `image` is one of the same length.
 fn one(totals: &mut Totals, w: &[u64], image: &[u64]) -> Result<(), String> {
     let good = words::well_formed(w);
@@ -386,6 +421,7 @@ fn one(totals: &mut Totals, w: &[u64], image: &[u64]) -> Result<(), String> {
             return Err(format!("count and rank say {said:?}, the pair at a rank {at:?}"));
         }
     }
+    cursors(w, 4)?;
     for word in [0, 1] {
         let number = ours::restore(&mut a, image, word);
         if number != 4 || a != w {

@@ -50,6 +50,11 @@ impl<'s> Rust<'s> {
         Ok(Rust { map, slab, other, nightly, alike: false, seen: w[words::SEEN], mark: w[words::MARK], placed: 0 })
     }
 
+    /// The iterator's pairs, both ways: rising from a start bound on, and all of it falling.
+    pub fn walks(&self, start: End) -> (Vec<(u64, u64)>, Vec<(u64, u64)>) {
+        self.nightly.walks(start)
+    }
+
     /// One order: its number and second word. A put that lacks room, by document 01's rule, is not done.
     pub fn order(&mut self, [code, key, value]: [u64; 3]) -> (u64, u64) {
         match code {

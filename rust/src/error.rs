@@ -4,7 +4,7 @@ use crate::ffi::{Picked, Said};
 use std::fmt;
 
 /// Why a call was refused. A refused call has changed no word. Where several would fit, the first of BadSize, BadArena,
-/// BadImage, Older, BadRange, BadOrder, NotRising, NoRoom or Spent is given; only the upgrade and the join have BadSize behind BadArena.
+/// BadImage, Older, BadRange, StaleCursor, BadOrder, NotRising, NoRoom or Spent is given; only the upgrade and the join have BadSize behind BadArena.
 #[derive(Clone, Copy, Debug, Eq, Hash, PartialEq)]
 #[non_exhaustive]
 pub enum Error {
@@ -20,6 +20,8 @@ pub enum Error {
     BadSize,
     /// 8: the image is not a well-formed arena.
     BadImage,
+    /// 9: the cursor's count is another one, or its place holds no pair and is no end.
+    StaleCursor,
     /// 10: the keys of the pairs that were to be loaded do not rise strictly.
     NotRising,
     /// 11: the key that was to be reserved is not above the mark.
@@ -44,6 +46,7 @@ impl Error {
             Error::BadOrder => 6,
             Error::BadSize => 7,
             Error::BadImage => 8,
+            Error::StaleCursor => 9,
             Error::NotRising => 10,
             Error::Spent => 11,
             Error::Older => 12,
@@ -59,6 +62,7 @@ impl Error {
             6 => Error::BadOrder,
             7 => Error::BadSize,
             8 => Error::BadImage,
+            9 => Error::StaleCursor,
             10 => Error::NotRising,
             11 => Error::Spent,
             12 => Error::Older,
@@ -76,6 +80,7 @@ impl fmt::Display for Error {
             Error::BadOrder => f.write_str("the order's code is not 1, 2, 3 or 4"),
             Error::BadSize => f.write_str("a number of words that cannot be"),
             Error::BadImage => f.write_str("the image is not a well-formed arena"),
+            Error::StaleCursor => f.write_str("the cursor is stale: the index has changed since, or no pair is there"),
             Error::NotRising => f.write_str("the keys to be loaded do not rise strictly"),
             Error::Spent => f.write_str("the counter is spent: reserve one above the mark"),
             Error::Older => f.write_str("the image is older than the index: if that is meant, say restore_older"),
@@ -109,7 +114,7 @@ pub(crate) fn number(said: Said) -> Result<usize, Error> {
     Ok(said.second as usize)
 }
 
-/// Of a pair at a rank: 1 comes with a pair, 2 with none.
+/// Of a pair at a rank or a cursor: 1 comes with a pair, 2 with none.
 pub(crate) fn pair(picked: Picked) -> Result<Option<(u64, u64)>, Error> {
     match picked.number {
         1 => Ok(Some((picked.key, picked.value))),

@@ -32,6 +32,53 @@ unsafe extern "C" {
         second: *mut u64,
     ) -> u64;
     fn cuffgarnet_at(arena: *const u64, n: u64, rank: u64, key: *mut u64, value: *mut u64) -> u64;
+    fn cuffgarnet_first(
+        arena: *const u64,
+        n: u64,
+        changes: u64,
+        cursor: *mut u64,
+        cursor_n: u64,
+        key: *mut u64,
+        value: *mut u64,
+    ) -> u64;
+    fn cuffgarnet_last(
+        arena: *const u64,
+        n: u64,
+        changes: u64,
+        cursor: *mut u64,
+        cursor_n: u64,
+        key: *mut u64,
+        value: *mut u64,
+    ) -> u64;
+    fn cuffgarnet_seek(
+        arena: *const u64,
+        n: u64,
+        changes: u64,
+        kind: u64,
+        bound: u64,
+        cursor: *mut u64,
+        cursor_n: u64,
+        key: *mut u64,
+        value: *mut u64,
+    ) -> u64;
+    fn cuffgarnet_next(
+        arena: *const u64,
+        n: u64,
+        changes: u64,
+        cursor: *mut u64,
+        cursor_n: u64,
+        key: *mut u64,
+        value: *mut u64,
+    ) -> u64;
+    fn cuffgarnet_previous(
+        arena: *const u64,
+        n: u64,
+        changes: u64,
+        cursor: *mut u64,
+        cursor_n: u64,
+        key: *mut u64,
+        value: *mut u64,
+    ) -> u64;
     fn cuffgarnet_batch(
         arena: *mut u64,
         n: u64,
@@ -70,7 +117,7 @@ pub struct Told {
     pub more: u64,
 }
 
-/// The number of a pair at a rank, and the pair.
+/// The number of a pair at a rank or a cursor, and the pair.
 pub struct Picked {
     pub number: u64,
     pub key: u64,
@@ -154,6 +201,53 @@ pub fn at(arena: &[u64], rank: u64) -> Picked {
     let mut key = UNWRITTEN;
     let mut value = UNWRITTEN;
     let number = unsafe { cuffgarnet_at(arena.as_ptr(), arena.len() as u64, rank, &mut key, &mut value) };
+    Picked { number, key, value }
+}
+
+/// A cursor call: the arena, the count, the cursor's words, and where the pair is written.
+type Walk = unsafe extern "C" fn(*const u64, u64, u64, *mut u64, u64, *mut u64, *mut u64) -> u64;
+
+fn walk(call: Walk, arena: &[u64], changes: u64, cursor: &mut [u64]) -> Picked {
+    let mut key = UNWRITTEN;
+    let mut value = UNWRITTEN;
+    let (arena_n, cursor_n) = (arena.len() as u64, cursor.len() as u64);
+    let number =
+        unsafe { call(arena.as_ptr(), arena_n, changes, cursor.as_mut_ptr(), cursor_n, &mut key, &mut value) };
+    Picked { number, key, value }
+}
+
+pub fn first(arena: &[u64], changes: u64, cursor: &mut [u64]) -> Picked {
+    walk(cuffgarnet_first, arena, changes, cursor)
+}
+
+pub fn last(arena: &[u64], changes: u64, cursor: &mut [u64]) -> Picked {
+    walk(cuffgarnet_last, arena, changes, cursor)
+}
+
+pub fn next(arena: &[u64], changes: u64, cursor: &mut [u64]) -> Picked {
+    walk(cuffgarnet_next, arena, changes, cursor)
+}
+
+pub fn previous(arena: &[u64], changes: u64, cursor: &mut [u64]) -> Picked {
+    walk(cuffgarnet_previous, arena, changes, cursor)
+}
+
+pub fn seek(arena: &[u64], changes: u64, start: (u64, u64), cursor: &mut [u64]) -> Picked {
+    let mut key = UNWRITTEN;
+    let mut value = UNWRITTEN;
+    let number = unsafe {
+        cuffgarnet_seek(
+            arena.as_ptr(),
+            arena.len() as u64,
+            changes,
+            start.0,
+            start.1,
+            cursor.as_mut_ptr(),
+            cursor.len() as u64,
+            &mut key,
+            &mut value,
+        )
+    };
     Picked { number, key, value }
 }
 

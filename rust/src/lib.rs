@@ -55,11 +55,13 @@
 #[cfg(not(all(target_arch = "x86_64", target_os = "linux")))]
 compile_error!("the static library that `rt` writes is for x86-64 Linux");
 
+mod cursor;
 mod error;
 mod ffi;
 mod order;
 mod range;
 
+pub use cursor::{Cursor, Moved};
 pub use error::Error;
 pub use order::{Order, Outcome};
 pub use range::{Listed, Range};

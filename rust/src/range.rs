@@ -17,7 +17,7 @@ pub struct Listed {
 }
 
 /// A bound as its kind and key.
-fn asked(bound: Bound<u64>) -> (u64, u64) {
+pub(crate) fn asked(bound: Bound<u64>) -> (u64, u64) {
     match bound {
         Bound::Unbounded => (0, 0),
         Bound::Included(key) => (1, key),

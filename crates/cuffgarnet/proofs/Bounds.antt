@@ -10,6 +10,7 @@ use mir.Val.{boolByte}
 use Rattle.model.specs.declared.Answer.{Answer}
 use Rattle.model.specs.declared.Answer.the-variants.{BadArena, BadRange}
 use Rattle.model.specs.declared.Counted.{Counted}
+use Rattle.model.specs.declared.Picked.{Picked}
 use Rattle.model.specs.declared.Range.{Range}
 use Rattle.model.specs.declared.Listed.{Listed}
 use Rattle.model.specs.declared.SearchBound.{SearchBound}
@@ -17,7 +18,7 @@ use Rattle.model.specs.WellFormed.{WellFormed}
 use Rattle.model.specs.Promise.{Listing, Count}
 use Rattle.cuffgarnet.specs.declared.Bound.{Bound}
 use Rattle.cuffgarnet.specs.declared.Bound.the-variants.{Known, Unknown}
-use Rattle.cuffgarnet.specs.Exported.{boundOf, Spanned, Between, CountBetween}
+use Rattle.cuffgarnet.specs.Exported.{boundOf, Spanned, Between, CountBetween, SeekBy}
 
 -- from 3 on there is no kind
 pub other-kind : (k key : ℕ) → 3 ≤ k → Unknown ≡ boundOf k key
@@ -54,6 +55,10 @@ module _ (w : List ℕ) (P : Range → Type 0) (R : Answer → Type 0) (s e : Bo
   -- the bounds by another name
   pub same-bounds : (s′ e′ : Bound) → s ≡ s′ → e ≡ e′ → Spanned w P R s e → Spanned w P R s′ e′
   same-bounds s′ e′ p q x = subst (λ (t : Bound). Spanned w P R t e′) p (subst (λ (t : Bound). Spanned w P R s t) q x)
+
+-- a cursor sought, the bound by another name
+pub sought-as : (b d : Bound) (n : ℕ) (w u u′ : List ℕ) (r : Picked) → b ≡ d → SeekBy b n w u u′ r → SeekBy d n w u u′ r
+sought-as b d n w u u′ r e x = subst (λ (t : Bound). SeekBy t n w u u′ r) e x
 
 -- what a listing and a count ask of a range, and say where they are refused
 abbrev pub listed : (w o o′ : List ℕ) → Listed → Range → Type 0

@@ -11,13 +11,17 @@ use Rattle.model.specs.declared.Picked.{Picked}
 use Rattle.model.specs.declared.Range.{Range}
 use Rattle.model.specs.Answer.{numbersOf}
 use Rattle.model.specs.State.{State, Reply}
-use Rattle.model.specs.Promise.{Call, Format, Batch, Restore, Listing, Rank, AtRank, Upgrade, Load, Cut, Join, badArena, badRangeOf}
+use Rattle.model.specs.Promise.{Call, Format, Batch, Restore, Listing, Rank, AtRank, Upgrade, Load, badArena, badRangeOf, Walk, Join, Cut}
 use Rattle.model.specs.Map.{rank, countOf}
-use Rattle.model.proofs.Unique.{one-end, one-call, one-format, one-listing, one-tell, one-at, one-batch, one-restore, one-load, one-cut, one-join}
+use Rattle.model.proofs.Unique.{one-end, one-call, one-format, one-listing, one-tell, one-at, one-batch, one-restore, one-load, one-walk, one-join, one-cut}
 use Rattle.model.proofs.Upgrades.{one-upgrade}
+use Rattle.model.specs.Cursor as cursor
+use Rattle.model.specs.Cursor.{Cursor, past, Moved}
+use Rattle.kept.specs.Kept.{cursorBy, Making, Stepping}
+use Rattle.kept.proofs.Same.{one-making, one-stepping, one-no-bound}
 use Rattle.cuffgarnet.specs.declared.Bound.{Bound}
 use Rattle.cuffgarnet.specs.declared.Bound.the-variants.{Known, Unknown}
-use Rattle.cuffgarnet.specs.Exported.{Numbered, Worded, Told, Summed, Paired, noKind, Between, CountBetween}
+use Rattle.cuffgarnet.specs.Exported.{Numbered, Worded, Told, Summed, Paired, noKind, Between, CountBetween, SeekBy}
 
 -- one answer has one number
 pub one-number : {P Q : Answer → Type 0} {n m : ℕ} (x : Numbered P n) (y : Numbered Q m) → x .answer ≡ y .answer → n ≡ m
@@ -86,13 +90,36 @@ one-count-between Unknown e w x y = one-uncounted w x y
 pub same-count : (s e : Bound) (w : List ℕ) {n m u v : ℕ} → Summed (CountBetween s e w) n u → Summed (CountBetween s e w) m v → (n ≡ m) × (u ≡ v)
 same-count s e w x y = one-sum x y (one-count-between s e w (x .given) (y .given))
 
+-- a pair
+one-pair : {P Q : Picked → Type 0} {n m j k u v : ℕ} (x : Paired P n j u) (y : Paired Q m k v) → x .picked ≡ y .picked → (n ≡ m) × (j ≡ k) × (u ≡ v)
+one-pair x y e = (
+  x .number-is ∙ ap (λ (p : Picked). (numbersOf (p .answer)) .number) e ∙ sym (y .number-is),
+  x .key-is ∙ ap (λ (p : Picked). p .key) e ∙ sym (y .key-is),
+  x .value-is ∙ ap (λ (p : Picked). (numbersOf (p .answer)) .word) e ∙ sym (y .value-is),
+)
+
 pub same-at : (i : ℕ) (w : List ℕ) {n m j k u v : ℕ} → Paired (AtRank i w w) n j u → Paired (AtRank i w w) m k v → (n ≡ m) × (j ≡ k) × (u ≡ v)
-same-at i w x y =
-    let e = (one-at i w (x .given) (y .given)) .1 in (
-      x .number-is ∙ ap (λ (p : Picked). (numbersOf (p .answer)) .number) e ∙ sym (y .number-is),
-      x .key-is ∙ ap (λ (p : Picked). p .key) e ∙ sym (y .key-is),
-      x .value-is ∙ ap (λ (p : Picked). (numbersOf (p .answer)) .word) e ∙ sym (y .value-is),
-    )
+same-at i w x y = one-pair x y ((one-at i w (x .given) (y .given)) .1)
+
+-- the cursor calls: the cursor's words, the number and the pair
+pub same-making : (f : State → Moved) (c : Cursor) (w u : List ℕ) {u₁ u₂ : List ℕ} {n m j k p q : ℕ} → Paired (Making (Walk f c w w) u u₁) n j p → Paired (Making (Walk f c w w) u u₂) m k q → (u₁ ≡ u₂) × (n ≡ m) × (j ≡ k) × (p ≡ q)
+same-making f c w u x y =
+    let e = one-making (Walk f c w w) u (λ c₁ c₂ r₁ r₂ a b. let d = one-walk f c w a b in (d .1, d .2)) (x .given) (y .given) in
+    let d = one-pair x y (e .1) in
+    (e .0, d .0, d .1, d .2)
+
+pub same-seek : (b : Bound) (n : ℕ) (w u : List ℕ) {u₁ u₂ : List ℕ} {i m j k p q : ℕ} → Paired (SeekBy b n w u u₁) i j p → Paired (SeekBy b n w u u₂) m k q → (u₁ ≡ u₂) × (i ≡ m) × (j ≡ k) × (p ≡ q)
+same-seek (Known b) n w u x y = same-making (cursor.seek n b) (record { changes = n; stand = past }) w u x y
+same-seek Unknown n w u x y =
+    let e = one-no-bound n w u (x .given) (y .given) in
+    let d = one-pair x y (e .1) in
+    (e .0, d .0, d .1, d .2)
+
+pub same-stepping : (f : Cursor → State → Moved) (w u : List ℕ) {u₁ u₂ : List ℕ} {n m j k p q : ℕ} → Paired (Stepping (λ c. Walk (f c) c w w) u u₁) n j p → Paired (Stepping (λ c. Walk (f c) c w w) u u₂) m k q → (u₁ ≡ u₂) × (n ≡ m) × (j ≡ k) × (p ≡ q)
+same-stepping f w u x y =
+    let e = one-stepping (λ c. Walk (f c) c w w) u (λ c₁ c₂ r₁ r₂ a b. let d = one-walk (f (cursorBy u)) (cursorBy u) w a b in (d .1, d .2)) (x .given) (y .given) in
+    let d = one-pair x y (e .1) in
+    (e .0, d .0, d .1, d .2)
 
 pub same-upgrade : (w v : List ℕ) {v₁ v₂ : List ℕ} {n m : ℕ} → Numbered (Upgrade w v v₁) n → Numbered (Upgrade w v v₂) m → (v₁ ≡ v₂) × (n ≡ m)
 same-upgrade w v x y = let e = one-upgrade w v (x .given) (y .given) in (e .0, one-number x y (e .1))

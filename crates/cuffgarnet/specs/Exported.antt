@@ -6,14 +6,17 @@ use mathlib.Core.Bool.{Bool, true, false, cond}
 use mathlib.Core.List.{List, [], _∷_}
 use lib.Dec.{eqb}
 use Rattle.model.specs.declared.Answer.{Answer}
-use Rattle.model.specs.declared.Answer.the-variants.{BadRange}
 use Rattle.model.specs.declared.Listed.{Listed}
 use Rattle.model.specs.declared.Counted.{Counted}
 use Rattle.model.specs.declared.Picked.{Picked}
 use Rattle.model.specs.declared.Range.{Range}
 use Rattle.model.specs.declared.SearchBound.the-variants.{Included, Excluded, AllIncluded}
 use Rattle.model.specs.Answer.{numbersOf}
-use Rattle.model.specs.Promise.{Ends, Refusal, badArena, Listing, Count}
+use Rattle.model.specs.Promise.{Ends, badArena, Listing, Count}
+use Rattle.model.specs.Public as promise
+use Rattle.model.specs.Public.{Promised}
+pub use Rattle.kept.specs.Kept.{noKind}
+use Rattle.kept.specs.Kept.{Making, NoBound}
 use Rattle.cuffgarnet.specs.declared.Bound.{Bound}
 use Rattle.cuffgarnet.specs.declared.Bound.the-variants.{Known, Unknown}
 
@@ -49,10 +52,6 @@ boundOf (suc zero) key = Known (Included key)
 boundOf (suc (suc zero)) key = Known (Excluded key)
 boundOf (suc (suc (suc kind))) key = Unknown
 
--- a bound of no kind is BadRange, whatever else is asked
-abbrev pub noKind : Refusal
-noKind = record { answer = BadRange; when = (⊥ → ⊥) }
-
 -- what is asked of the range between two bounds; a bound of no kind is refused, behind a bad arena, as R says
 abbrev pub Spanned : List ℕ → (Range → Type 0) → (Answer → Type 0) → Bound → Bound → Type 0
 Spanned w P R (Known s) (Known e) = P (record { start = s; end = e })
@@ -66,6 +65,11 @@ Between s e w o o′ r = Spanned w (λ q. Listing q w w o o′ r) (λ a. (o′ �
 -- how many pairs lie between two bounds
 abbrev pub CountBetween : Bound → Bound → List ℕ → Counted → Type 0
 CountBetween s e w r = Spanned w (λ q. Count q w w r) (λ a. r ≡ record { answer = a; number = 0 }) s e
+
+-- a cursor sought by a start bound: the arena w, the cursor's words u before and u′ after
+abbrev pub SeekBy : Bound → ℕ → (w u u′ : List ℕ) → Picked → Type 0
+SeekBy (Known b) n w u u′ r = Making (Promised (promise.seek n b) w w) u u′ r
+SeekBy Unknown n w u u′ r = NoBound n w u u′ r
 
 -- a number is written out
 pub record Summed (allowed : Counted → Type 0) (number second : ℕ) : Type 0 where

@@ -7,6 +7,12 @@ use checker::well_formed;
 use cut::cut;
 use format::format;
 use join::join;
+use kept::keep_first;
+use kept::keep_last;
+use kept::keep_next;
+use kept::keep_none;
+use kept::keep_previous;
+use kept::keep_seek;
 use listing::list;
 use load::load;
 use map::delete;
@@ -16,6 +22,7 @@ use map::reserve;
 use model::Answer;
 use model::Counted;
 use model::Listed;
+use model::Picked;
 use model::Range;
 use model::SearchBound;
 use ranks::at;
@@ -30,8 +37,9 @@ ghost use mathlib.Core.List.{List};
 ghost use Rattle.model.specs.Public.{Promised};
 ghost use Rattle.model.specs.Public as promise;
 ghost use Rattle.batch.specs.Orders.{orderOf};
+ghost use Rattle.kept.specs.Kept.{Making, Stepping};
 ghost use Rattle.cuffgarnet.specs.declared.Bound.the-variants.{Unknown};
-ghost use Rattle.cuffgarnet.specs.Exported.{Numbered, Worded, Told, Summed, Paired, meantBy, boundOf, Between, CountBetween};
+ghost use Rattle.cuffgarnet.specs.Exported.{Numbered, Worded, Told, Summed, Paired, meantBy, boundOf, Between, CountBetween, SeekBy};
 
 // A bound asked for by its kind.
 pub enum Bound {
@@ -266,6 +274,108 @@ pub extern "C" fn cuffgarnet_at(arena: &[u64], rank: u64, key: &mut u64, value: 
     ensures { λ r. ⌜ Paired (Promised (promise.at rank) (now (arena .entry)) (now (arena .entry)) tt) r (now (key .exit)) (now (value .exit)) ⌝ }
 {
     let p = at(arena, rank);
+    *key = p.key;
+    let r = p.answer;
+    *value = r.word();
+    r.number()
+}
+
+// A cursor at the first pair.
+#[no_mangle]
+pub extern "C" fn cuffgarnet_first(
+    arena: &[u64],
+    changes: u64,
+    cursor: &mut [u64],
+    key: &mut u64,
+    value: &mut u64,
+) -> u64
+    ensures { λ r. ⌜ Paired (Making (Promised (promise.first changes) (now (arena .entry)) (now (arena .entry))) (now (cursor .entry)) (now (cursor .exit))) r (now (key .exit)) (now (value .exit)) ⌝ }
+{
+    let p = keep_first(arena, changes, cursor);
+    *key = p.key;
+    let r = p.answer;
+    *value = r.word();
+    r.number()
+}
+
+// A cursor at the last pair.
+#[no_mangle]
+pub extern "C" fn cuffgarnet_last(
+    arena: &[u64],
+    changes: u64,
+    cursor: &mut [u64],
+    key: &mut u64,
+    value: &mut u64,
+) -> u64
+    ensures { λ r. ⌜ Paired (Making (Promised (promise.last changes) (now (arena .entry)) (now (arena .entry))) (now (cursor .entry)) (now (cursor .exit))) r (now (key .exit)) (now (value .exit)) ⌝ }
+{
+    let p = keep_last(arena, changes, cursor);
+    *key = p.key;
+    let r = p.answer;
+    *value = r.word();
+    r.number()
+}
+
+// A seek by the kind of its bound.
+fn seek_by(arena: &[u64], changes: u64, start: Bound, cursor: &mut [u64]) -> Picked
+    ensures { λ r. ⌜ SeekBy start changes (now (arena .entry)) (now (cursor .entry)) (now (cursor .exit)) r ⌝ }
+{
+    match start {
+        Bound::Unknown => keep_none(arena, changes, cursor),
+        Bound::Known(b) => keep_seek(arena, changes, b, cursor),
+    }
+}
+
+// A cursor at the first pair that a start bound admits.
+#[no_mangle]
+pub extern "C" fn cuffgarnet_seek(
+    arena: &[u64],
+    changes: u64,
+    kind: u64,
+    bound: u64,
+    cursor: &mut [u64],
+    key: &mut u64,
+    value: &mut u64,
+) -> u64
+    ensures { λ r. ⌜ Paired (SeekBy (boundOf kind bound) changes (now (arena .entry)) (now (cursor .entry)) (now (cursor .exit))) r (now (key .exit)) (now (value .exit)) ⌝ }
+{
+    let p = seek_by(arena, changes, bound_of(kind, bound), cursor);
+    *key = p.key;
+    let r = p.answer;
+    *value = r.word();
+    r.number()
+}
+
+// The cursor steps to the next pair.
+#[no_mangle]
+pub extern "C" fn cuffgarnet_next(
+    arena: &[u64],
+    changes: u64,
+    cursor: &mut [u64],
+    key: &mut u64,
+    value: &mut u64,
+) -> u64
+    ensures { λ r. ⌜ Paired (Stepping (λ c. Promised (promise.next changes c) (now (arena .entry)) (now (arena .entry))) (now (cursor .entry)) (now (cursor .exit))) r (now (key .exit)) (now (value .exit)) ⌝ }
+{
+    let p = keep_next(arena, changes, cursor);
+    *key = p.key;
+    let r = p.answer;
+    *value = r.word();
+    r.number()
+}
+
+// The cursor steps to the pair before.
+#[no_mangle]
+pub extern "C" fn cuffgarnet_previous(
+    arena: &[u64],
+    changes: u64,
+    cursor: &mut [u64],
+    key: &mut u64,
+    value: &mut u64,
+) -> u64
+    ensures { λ r. ⌜ Paired (Stepping (λ c. Promised (promise.previous changes c) (now (arena .entry)) (now (arena .entry))) (now (cursor .entry)) (now (cursor .exit))) r (now (key .exit)) (now (value .exit)) ⌝ }
+{
+    let p = keep_previous(arena, changes, cursor);
     *key = p.key;
     let r = p.answer;
     *value = r.word();

@@ -17,6 +17,7 @@ use Rattle.model.specs.declared.Listed.{Listed}
 use Rattle.model.specs.declared.Counted.{Counted}
 use Rattle.model.specs.declared.Picked.{Picked}
 use Rattle.model.specs.Layout.{base, header, countWord, freeWord}
+use Rattle.model.specs.declared.SearchBound.{SearchBound}
 use Rattle.model.specs.Tree.{Pair}
 use Rattle.model.specs.Search.{search}
 use Rattle.model.specs.Insert.{needed}
@@ -29,12 +30,17 @@ use Rattle.model.specs.Load.{pairsOf, lastMark, loaded}
 use Rattle.model.specs.Words.{wordsOf}
 use Rattle.model.specs.Sound.{Sound}
 use Rattle.model.specs.Promise as model
-use Rattle.model.specs.Promise.{Holds, badArena, badRangeOf, room, laid, Called, Formatted, Ran, Restored, Upgraded, Loaded}
+use Rattle.model.specs.Promise.{Holds, badArena, badRangeOf, room, laid, Called, Formatted, Ran, Restored, Upgraded, Loaded, Walks}
 use Rattle.model.proofs.Lists.{same-or}
 use Rattle.model.proofs.Maps.{bad-panics, panics-bad}
 use Rattle.model.proofs.Calls.{get-map, Reached, Reserved, reserve-map, NoneLeft, order-sound, batch-sound, formatted-sound, restored-sound}
 use Rattle.model.proofs.Backward.{one-state, backward}
-use Rattle.model.proofs.Unique.{one-format, one-listing, one-tell, one-at, one-batch, one-restore, one-load}
+use Rattle.model.proofs.Unique.{one-format, one-listing, one-tell, one-at, one-batch, one-restore, one-load, one-walk}
+use Rattle.model.specs.Cursor as cursor
+use Rattle.model.specs.Cursor.{Stand, before, past, Cursor, Moved}
+use Rattle.walking.specs.Walking.{Stale}
+use Rattle.walking.specs.Found.{KeyAt, firstOf, lastOf, soughtIn, nextOf, previousOf, LeftOn, Lands}
+use Rattle.walking.proofs.Found.{first-lands, last-lands, seek-lands, Stepped, next-ends, previous-ends}
 use Rattle.model.proofs.Upgrades.{one-upgrade}
 use Rattle.loading.proofs.Loads.{load-list, loaded-sound}
 use Rattle.demands.specs.Plain.{Plain, only, ordered, orderedAll, putTo, getFrom, deleteFrom, reserveOn, roomBy, roomsBy}
@@ -239,6 +245,68 @@ at-lawful i = record {
   refusing = λ w. refl;
   raises = λ rooms p. refl;
 }
+
+-- ---- the walking cursor
+
+-- a move that lands on what the list has
+lands-did : (f : State → Moved) (n : ℕ) (end : Stand) (g : List Pair → Option Pair) {w w′ : List ℕ} {c′ : Cursor} {r : Picked} → (x : Walks f w w′ c′ r) → Lands w n end (g (list (x .state))) (f (x .state))
+    → (r ≡ picked (g (stored w))) × call.Left n end g w w′ c′ × (refusal (r .answer) ≡ false)
+lands-did f n end g {w} x y =
+    let e = sym (stored-is (x .holds)) in (
+      x .said ∙ (y .finds ∙ ap (λ l. picked (g l)) e),
+      (x .left, ap (λ (d : Cursor). d .changes) (x .stands) ∙ y .counts, subst (λ (d : Cursor). LeftOn w end (g (stored w)) (d .stand)) (sym (x .stands)) (subst (λ l. LeftOn w end (g l) ((f (x .state)) .cursor .stand)) e (y .stands))),
+      ap (λ (a : Picked). refusal (a .answer)) (x .said ∙ y .finds) ∙ picked-done (g (list (x .state))),
+    )
+
+pub first-lawful : (n : ℕ) → Lawful (call.first n)
+first-lawful n = record {
+  by-map = λ w w′ c r. ends-map ((call.first n) .refusals w) (refused-beside (call.first n)) (λ z x. let d = lands-did (cursor.first n) n past firstOf x (first-lands (x .holds) n) in tell-did (call.first n) refl (x .holds) (x .left) (d .0) refl (d .1) (d .2));
+  one-end = λ w w₁ w₂ c₁ c₂ r₁ r₂ x y. one-walk (cursor.first n) _ w x y;
+  refusing = λ w. refl;
+  raises = λ rooms p. refl;
+}
+
+pub last-lawful : (n : ℕ) → Lawful (call.last n)
+last-lawful n = record {
+  by-map = λ w w′ c r. ends-map ((call.last n) .refusals w) (refused-beside (call.last n)) (λ z x. let d = lands-did (cursor.last n) n before lastOf x (last-lands (x .holds) n) in tell-did (call.last n) refl (x .holds) (x .left) (d .0) refl (d .1) (d .2));
+  one-end = λ w w₁ w₂ c₁ c₂ r₁ r₂ x y. one-walk (cursor.last n) _ w x y;
+  refusing = λ w. refl;
+  raises = λ rooms p. refl;
+}
+
+pub seek-lawful : (n : ℕ) (b : SearchBound) → Lawful (call.seek n b)
+seek-lawful n b = record {
+  by-map = λ w w′ c r. ends-map ((call.seek n b) .refusals w) (refused-beside (call.seek n b)) (λ z x. let d = lands-did (cursor.seek n b) n past (soughtIn b) x (seek-lands (x .holds) n b) in tell-did (call.seek n b) refl (x .holds) (x .left) (d .0) refl (d .1) (d .2));
+  one-end = λ w w₁ w₂ c₁ c₂ r₁ r₂ x y. one-walk (cursor.seek n b) _ w x y;
+  refusing = λ w. refl;
+  raises = λ rooms p. refl;
+}
+
+-- a step: refused as stale, or it lands
+module _ (n : ℕ) (c : Cursor) (k : ℕ) where
+  pub next-lawful : Lawful (call.next n c k)
+  next-lawful = record {
+    by-map = λ w w′ l r d. ends-map (badArena w ∷ []) (refused-beside (call.next n c k)) (λ z x. go x (next-ends (x .holds) n c k (d .0))) (d .1);
+    one-end = λ w w₁ w₂ c₁ c₂ r₁ r₂ x y. one-walk (cursor.next n c) c w (x .1) (y .1);
+    refusing = λ w. refl;
+    raises = λ rooms p. refl;
+  }
+    where
+      go : {w w′ : List ℕ} {c′ : Cursor} {r : Picked} (x : Walks (cursor.next n c) w w′ c′ r) → Stepped w n past (nextOf (c .stand) k (list (x .state))) c (cursor.next n c (x .state)) → model.Ends (call.staleCursor n c w ∷ []) (Refused (call.next n c k) w w′ c′ r) (Did (call.next n c k) w w′ c′ r)
+      go x (inl y) = inl (y .0, refused-beside (call.next n c k) _ (x .left, x .stands ∙ ap (λ (m : Moved). m .cursor) (y .1), x .said ∙ ap (λ (m : Moved). m .found) (y .1)))
+      go x (inr y) = let d = lands-did (cursor.next n c) n past (nextOf (c .stand) k) x (y .1) in inr (y .0, tell-did (call.next n c k) refl (x .holds) (x .left) (d .0) refl (d .1) (d .2))
+
+  pub previous-lawful : Lawful (call.previous n c k)
+  previous-lawful = record {
+    by-map = λ w w′ l r d. ends-map (badArena w ∷ []) (refused-beside (call.previous n c k)) (λ z x. go x (previous-ends (x .holds) n c k (d .0))) (d .1);
+    one-end = λ w w₁ w₂ c₁ c₂ r₁ r₂ x y. one-walk (cursor.previous n c) c w (x .1) (y .1);
+    refusing = λ w. refl;
+    raises = λ rooms p. refl;
+  }
+    where
+      go : {w w′ : List ℕ} {c′ : Cursor} {r : Picked} (x : Walks (cursor.previous n c) w w′ c′ r) → Stepped w n before (previousOf (c .stand) k (list (x .state))) c (cursor.previous n c (x .state)) → model.Ends (call.staleCursor n c w ∷ []) (Refused (call.previous n c k) w w′ c′ r) (Did (call.previous n c k) w w′ c′ r)
+      go x (inl y) = inl (y .0, refused-beside (call.previous n c k) _ (x .left, x .stands ∙ ap (λ (m : Moved). m .cursor) (y .1), x .said ∙ ap (λ (m : Moved). m .found) (y .1)))
+      go x (inr y) = let d = lands-did (cursor.previous n c) n before (previousOf (c .stand) k) x (y .1) in inr (y .0, tell-did (call.previous n c k) refl (x .holds) (x .left) (d .0) refl (d .1) (d .2))
 
 -- ---- batch
 

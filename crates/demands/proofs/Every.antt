@@ -24,7 +24,7 @@ use Rattle.model.proofs.Forward.{forward}
 use Rattle.demands.specs.Plain.{Plain, empty, bringing, Made, Spent, Raises, Spending}
 use Rattle.demands.specs.Stored.{held}
 use Rattle.demands.specs.Call.{Speech, Call, given, made, Unchanged, Refused, Did, ByMap}
-use Rattle.demands.specs.Public.{Public, format, check, get, put, delete, reserve, order, list, rank, count, at, batch, restore, upgrade, load, cutFirst, cutSecond, joinFirst, joinSecond}
+use Rattle.demands.specs.Public.{Public, format, check, get, put, delete, reserve, order, list, rank, count, at, batch, restore, upgrade, load, cutFirst, cutSecond, joinFirst, joinSecond, first, last, seek, next, previous}
 use Rattle.demands.specs.History.{Turn, Run, Standing, after, afterAll, Kept, NotLower}
 use Rattle.demands.specs.Demands.{AsTheMap, AnyHistory, OneEnd}
 use Rattle.model.proofs.Header.{header-is, seen-is, mark-is, mark-by, stored-mark}
@@ -50,6 +50,11 @@ lawful _ (batch b a) = calls.batch-lawful b a
 lawful _ (rank k) = calls.rank-lawful k
 lawful _ (count q) = calls.count-lawful q
 lawful _ (at i) = calls.at-lawful i
+lawful _ (first n) = calls.first-lawful n
+lawful _ (last n) = calls.last-lawful n
+lawful _ (seek n b) = calls.seek-lawful n b
+lawful _ (next n c k) = calls.next-lawful n c k
+lawful _ (previous n c k) = calls.previous-lawful n c k
 lawful _ (restore m i) = calls.restore-lawful m i
 lawful _ (upgrade w) = calls.upgrade-lawful w
 lawful _ (load run) = calls.load-lawful run

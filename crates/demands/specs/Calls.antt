@@ -5,15 +5,16 @@ use mathlib.Core.Path.{_≡_}
 use mathlib.Core.Bool.{true, false, Bool}
 use mathlib.Core.Logic.{_⊎_}
 use mathlib.Core.List.{List, [], _∷_}
-use mathlib.Core.Option.{none}
+use mathlib.Core.Option.{Option, none}
 use lib.Dec.{ltb}
 use lib.ListN.{length, take}
 use Rattle.model.specs.declared.Answer.{Answer}
-use Rattle.model.specs.declared.Answer.the-variants.{Done, NoRoom, BadRange, Spent, BadOrder}
+use Rattle.model.specs.declared.Answer.the-variants.{Done, NoRoom, BadRange, Spent, BadOrder, StaleCursor}
+use Rattle.model.specs.declared.SearchBound.{SearchBound}
 use Rattle.model.specs.declared.Range.{Range}
 use Rattle.model.specs.declared.Layout.the-variants.{Format1}
 use Rattle.model.specs.Layout.{header, base, countWord, freeWord}
-use Rattle.model.specs.Tree.{Ctx}
+use Rattle.model.specs.Tree.{Ctx, Pair}
 use Rattle.model.specs.Search.{gap, search}
 use Rattle.model.specs.Insert.{needed}
 use Rattle.model.specs.Mark.{higher, reached, storedMark}
@@ -25,7 +26,11 @@ use Rattle.model.specs.Plain.{lower, upper}
 use Rattle.model.specs.Merge.{merge}
 use Rattle.model.specs.WellFormed.{WellFormed}
 use Rattle.model.specs.Promise.{Refusal, badSize, badArenaBy, badArena, badImage, older, AnyCount, Holds, Fits, room, laid, Loadable, notRising, noNodes}
+use Rattle.model.specs.Cursor.{Stand, before, past, Cursor}
 use Rattle.model.specs.Public as promise
+use Rattle.model.specs.Public.{Promise}
+use Rattle.walking.specs.Walking.{Stale}
+use Rattle.walking.specs.Found.{KeyAt, firstOf, lastOf, soughtIn, nextOf, previousOf, LeftOn}
 use Rattle.demands.specs.Stored.{stored, heldBy, held}
 use Rattle.demands.specs.Plain.{empty, bringing, only, putTo, getFrom, deleteFrom, reserveOn, ordered, orderedAll, roomsBy}
 use Rattle.demands.specs.Call.{Call, refusal, inAnswer, inListing, inCount, inPick}
@@ -192,6 +197,75 @@ at i = record {
   rooms = λ r l. [];
   does = λ rooms p. only (picked (nth i (p .pairs))) p;
   leaves = λ w w′ l. w′ ≡ w;
+  begins = false;
+}
+
+-- ---- the walking cursor: the cursor that is handed back is lent. Refused, it stays as it was: of first and seek past the last pair, of last before the first
+
+-- the cursor c′ of these words is left with the count n, on the pair found or at an end
+abbrev pub Left : ℕ → Stand → (List Pair → Option Pair) → (w w′ : List ℕ) → Cursor → Type 0
+Left n end found w w′ c′ = (w′ ≡ w) × (c′ .changes ≡ n) × LeftOn w end (found (stored w)) (c′ .stand)
+
+abbrev pub first : (changes : ℕ) → Call
+first n = record {
+  promise = promise.first n;
+  speech = inPick;
+  refusals = λ w. badArena w ∷ [];
+  rooms = λ r l. [];
+  does = λ rooms p. only (picked (firstOf (p .pairs))) p;
+  leaves = Left n past firstOf;
+  begins = false;
+}
+
+abbrev pub last : (changes : ℕ) → Call
+last n = record {
+  promise = promise.last n;
+  speech = inPick;
+  refusals = λ w. badArena w ∷ [];
+  rooms = λ r l. [];
+  does = λ rooms p. only (picked (lastOf (p .pairs))) p;
+  leaves = Left n before lastOf;
+  begins = false;
+}
+
+abbrev pub seek : (changes : ℕ) → SearchBound → Call
+seek n b = record {
+  promise = promise.seek n b;
+  speech = inPick;
+  refusals = λ w. badArena w ∷ [];
+  rooms = λ r l. [];
+  does = λ rooms p. only (picked (soughtIn b (p .pairs))) p;
+  leaves = Left n past (soughtIn b);
+  begins = false;
+}
+
+-- the counts differ, or the cursor's place holds no pair and is no end
+abbrev pub staleCursor : ℕ → Cursor → List ℕ → Refusal
+staleCursor n c w = record { answer = StaleCursor; when = Stale w n c }
+
+-- a step, told with the key at the cursor's place: a plain list knows keys, but no places. The words have one key there, so that this leaves out no step
+abbrev pub knowing : Cursor → ℕ → Promise → Promise
+knowing c k p = record { Said = p .Said; Lent = p .Lent; lent = p .lent; ends = λ w w′ l r. KeyAt w (c .stand) k × p .ends w w′ l r }
+
+abbrev pub next : (changes : ℕ) → Cursor → (key : ℕ) → Call
+next n c k = record {
+  promise = knowing c k (promise.next n c);
+  speech = inPick;
+  refusals = λ w. badArena w ∷ staleCursor n c w ∷ [];
+  rooms = λ r l. [];
+  does = λ rooms p. only (picked (nextOf (c .stand) k (p .pairs))) p;
+  leaves = Left n past (nextOf (c .stand) k);
+  begins = false;
+}
+
+abbrev pub previous : (changes : ℕ) → Cursor → (key : ℕ) → Call
+previous n c k = record {
+  promise = knowing c k (promise.previous n c);
+  speech = inPick;
+  refusals = λ w. badArena w ∷ staleCursor n c w ∷ [];
+  rooms = λ r l. [];
+  does = λ rooms p. only (picked (previousOf (c .stand) k (p .pairs))) p;
+  leaves = Left n before (previousOf (c .stand) k);
   begins = false;
 }
 

@@ -10,7 +10,7 @@ use native.Mathlib.Decide.{ℕ-discrete, decLt}
 use lib.Seq.{set-getD, getD-set-same, getD-set-other, set-out}
 use borrow.Author.Tests.{le-leb, lt-leb}
 use Rattle.model.specs.declared.Answer.{Answer}
-use Rattle.model.specs.declared.Answer.the-variants.{Done, Value, Absent, NoRoom, BadArena, BadRange, BadOrder, BadSize, BadImage, NotRising, Spent, Older}
+use Rattle.model.specs.declared.Answer.the-variants.{Done, Value, Absent, NoRoom, BadArena, BadRange, BadOrder, BadSize, BadImage, StaleCursor, Spent, Older, NotRising}
 use Rattle.model.specs.Layout.{most, largestCount, header, pairsWord, freeWord, NodeVal, nth, blank, Arena}
 use Rattle.model.specs.Tree.{Pair, Item, Tree, Ctx, Whole, plug, fill, flatOf}
 use Rattle.model.specs.Search.{Spot, at, gap, search}
@@ -189,6 +189,7 @@ module _ (k : ℕ) (s : State) (d : Reply) (w w′ : List ℕ) where
   if-neither BadOrder a b q = absurd q
   if-neither BadSize a b q = absurd q
   if-neither BadImage a b q = absurd q
+  if-neither StaleCursor a b q = absurd q
   if-neither NotRising a b q = absurd q
   if-neither Spent a b q = absurd q
   if-neither Older a b q = absurd q

@@ -12,7 +12,7 @@ use Rattle.model.specs.Mark.{spend}
 use Rattle.model.specs.State.{State, Reply, list}
 use Rattle.model.specs.Words.{wordsOf}
 use Rattle.model.specs.declared.Answer.{Answer}
-use Rattle.model.specs.declared.Answer.the-variants.{Done, Value, Absent, NoRoom, BadArena, BadRange, BadOrder, BadSize, BadImage, NotRising, Spent, Older}
+use Rattle.model.specs.declared.Answer.the-variants.{Done, Value, Absent, NoRoom, BadArena, BadRange, BadOrder, BadSize, BadImage, StaleCursor, Spent, Older, NotRising}
 use Rattle.node.specs.declared.NodeNo.{NodeNo}
 use Rattle.node.specs.declared.LeftOrRight.{LeftOrRight}
 use Rattle.node.specs.declared.LeftOrRight.the-variants.{Left, Right}
@@ -99,6 +99,7 @@ PutIn k s d w w′ BadRange = ⊥
 PutIn k s d w w′ BadOrder = ⊥
 PutIn k s d w w′ BadSize = ⊥
 PutIn k s d w w′ BadImage = ⊥
+PutIn k s d w w′ StaleCursor = ⊥
 PutIn k s d w w′ NotRising = ⊥
 PutIn k s d w w′ Spent = ⊥
 PutIn k s d w w′ Older = ⊥

@@ -6,7 +6,7 @@ use mathlib.Core.Path.{_≡_, refl, sym, ap, _∙_, subst}
 use mathlib.Core.List.{List, [], _∷_, map}
 use lib.ListN.{length, getD}
 use Rattle.model.specs.Layout.{most, base, nodeSize, wordAt, keysWord, valuesWord, keyOf, valOf}
-use Rattle.model.specs.Tree.{Pair, Item, Tree, Ctx, Whole, plug, fill, fillRest}
+use Rattle.model.specs.Tree.{Pair, Item, Tree, Ctx, Whole, plug, fill}
 use Rattle.model.specs.Search.{Spot, at, gap, search}
 use Rattle.model.specs.Words.{pairs}
 use Rattle.model.specs.State.{State}
@@ -14,17 +14,13 @@ use Rattle.model.specs.Sound.{Sound}
 use Rattle.model.specs.Promise.{Holds}
 use Rattle.model.proofs.Plug.{length-fill}
 use Rattle.model.proofs.Descent.{Sought, search-right}
-use Rattle.model.proofs.Standing.{NodeAt, At, stands, short-at, key-at, value-at}
+use Rattle.model.proofs.Standing.{NodeAt, At, stands, short-at, key-at, value-at, fill-at}
 use Rattle.search.specs.declared.Handle.{Handle}
 use Rattle.search.specs.declared.SearchResult.the-variants.{Found}
 use Rattle.search.specs.Results.{handle, spotted}
 use Rattle.navigate.specs.declared.Next.the-variants.{Kv}
+pub use Rattle.navigate.specs.Places.{InTree}
 use Rattle.navigate.specs.Places.{KvAt, stepped}
-
--- the pair right of a node's hole
-fill-at : {A : Type 0} (f : Pair → ℕ) (l : List (Item A)) (e : A) (r : List (Item A)) (j : ℕ) → getD (map f (pairs (fillRest l e r))) (length l + j) 0 ≡ getD (map f (pairs r)) j 0
-fill-at f [] e r j = ap (λ (i : ℕ). getD (map f (pairs r)) i 0) (let z : 0 + j ≡ j = omega arith in z)
-fill-at f (x ∷ l) e r j = ap (λ (i : ℕ). getD (map f (pairs (fillRest l (x .edge) (record { pair = x .pair; edge = e } ∷ r)))) i 0) (let z : length (x ∷ l) + j ≡ length l + suc j = omega arith in z) ∙ fill-at f l (x .edge) (record { pair = x .pair; edge = e } ∷ r) (suc j)
 
 module _ {s : State} (d : Handle) (y : KvAt s d) where
   abbrev pub node : Tree (suc (d .height))
@@ -57,11 +53,6 @@ module _ {s : State} (d : Handle) (y : KvAt s d) where
 pub record Placed (s : State) (p : Spot) (d : Handle) : Type 0 where
   pub kv : KvAt s d
   pub same : p ≡ at (kv .ctx) (kv .no) (kv .left) (kv .hole) (kv .item) (kv .right)
-
--- the spot, if it is a pair, is one of the tree's
-abbrev pub InTree : Whole → Spot → Type 0
-InTree w (gap c) = Unit {0}
-InTree w (at c n l e x r) = plug c (fill n l e (x ∷ r)) ≡ w
 
 placed : {s : State} {h : ℕ} (c : Ctx (suc h)) (n : ℕ) (l : List (Item (Tree h))) (e : Tree h) (x : Item (Tree h)) (r : List (Item (Tree h)))
     → InTree (s .whole) (at c n l e x r) → (d : Handle) → d ≡ handle n h (length l) → Placed s (at c n l e x r) d

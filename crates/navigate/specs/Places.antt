@@ -4,7 +4,7 @@ use Prim.Native.Nat.{ℕ, zero, suc}
 use mathlib.Core.Path.{_≡_}
 use mathlib.Core.List.{List, _∷_}
 use lib.ListN.{length}
-use Rattle.model.specs.Tree.{Item, Tree, Ctx, plug, fill}
+use Rattle.model.specs.Tree.{Item, Tree, Ctx, Whole, plug, fill}
 use Rattle.model.specs.Search.{Spot, at, gap}
 use Rattle.model.specs.State.{State}
 use Rattle.model.specs.Promise.{Holds}
@@ -41,3 +41,8 @@ pub record KvAt (s : State) (d : Handle) : Type 0 where
 abbrev pub stepped : Spot → Next
 stepped (at {h = h} c n l e x r) = Kv (handle n h (length l))
 stepped (gap c) = End
+
+-- the spot, if it is a pair, is one of the tree's
+abbrev pub InTree : Whole → Spot → Type 0
+InTree w (gap c) = Unit {0}
+InTree w (at c n l e x r) = plug c (fill n l e (x ∷ r)) ≡ w

@@ -21,10 +21,10 @@ use Rattle.insert.proofs.put.Tie as tie
 
 -- the answer is not NoRoom; nor Done
 not-refused : (c : tie.At-match-keys2) → c .before .before .before .put-pair .result ≡ NoRoom → ⊥
-not-refused c e = miss (0 ∷ 1 ∷ 2 ∷ 4 ∷ 5 ∷ 6 ∷ 7 ∷ 8 ∷ 9 ∷ 10 ∷ 11 ∷ []) 3 tt (rw e at (c .match .keys2))
+not-refused c e = miss (0 ∷ 1 ∷ 2 ∷ 4 ∷ 5 ∷ 6 ∷ 7 ∷ 8 ∷ 9 ∷ 10 ∷ 11 ∷ 12 ∷ []) 3 tt (rw e at (c .match .keys2))
 
 not-new : (c : tie.At-match2-keys2) → c .before .before .before .before .put-pair .result ≡ Done → ⊥
-not-new c e = miss (1 ∷ 2 ∷ 3 ∷ 4 ∷ 5 ∷ 6 ∷ 7 ∷ 8 ∷ 9 ∷ 10 ∷ 11 ∷ []) 0 tt (rw e at (c .match2 .keys2))
+not-new c e = miss (1 ∷ 2 ∷ 3 ∷ 4 ∷ 5 ∷ 6 ∷ 7 ∷ 8 ∷ 9 ∷ 10 ∷ 11 ∷ 12 ∷ []) 0 tt (rw e at (c .match2 .keys2))
 
 -- accepted: counted if new, then spent
 accepted : (c : tie.At-match2-came) → let x = c .before .before .before .before .before .before .before .args in (s : State) → Holds (x .a .now) s → (w : List ℕ)

@@ -1,0 +1,4 @@
+-- The files of this crate's laws.
+-- Assumes nothing.
+pub mod Four
+pub mod Same

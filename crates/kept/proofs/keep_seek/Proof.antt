@@ -1,0 +1,42 @@
+-- `kept::keep_seek` meets its contract.
+-- Assumes nothing.
+use native.Mathlib.Omega.{arith}
+use mathlib.Core.Path.{_≡_, refl}
+use mathlib.Core.Logic.{inl, inr}
+use Rattle.cursor.specs.Cursors.{cursorOf}
+use borrow.Author.Needs.{needs}
+use Rattle.kept.proofs.keep_seek.Statement.{statement}
+use Rattle.kept.proofs.keep_seek.Tie as tie
+
+refused-requires : tie.Need-refused-requires
+refused-requires c κs = search needs
+
+returns : tie.Need-returns
+returns c = inl ((λ e. omega (arith, e, c .before .if1 .taken)), (refl, c .refused .ensures))
+
+read-requires : tie.Need-read-requires
+read-requires c κs = search needs
+
+seek-requires : tie.Need-seek-requires
+seek-requires c κs = search needs
+
+write-requires : tie.Need-write-requires
+write-requires c κs = search needs
+
+same-length : tie.Need-same-length
+same-length c = search needs
+
+returns-2 : tie.Need-returns-2
+returns-2 c = inr ((λ b. b (omega (arith, c .before .before .before .before .before .before .before .before .if1 .left))), record { cursor = cursorOf (c .before .before .before .before .before .seek .result .cursor); given = c .before .before .before .before .before .seek .ensures; written = c .before .before .before .write .ensures })
+
+pub keep-seek-spec : {M : Type 1} → statement M
+keep-seek-spec =
+    tie.close
+    (tie.spec
+    refused-requires
+    returns
+    read-requires
+    seek-requires
+    write-requires
+    same-length
+    returns-2)
