@@ -168,8 +168,8 @@ uint64_t cuffgarnet_batch(uint64_t *arena, uint64_t n, const uint64_t *orders, u
 
 /* Copies an image (the words of an arena, saved earlier) over the arena; the mark becomes the larger of the two. 0; 7 if
  * the lengths differ; 4; 8 if the image is not well-formed; 12 if its mark is lower than the arena's (or it has none, while the
- * arena has seen one) and `older` is not 1. The image does not change. A restore that is killed may have lowered
- * the mark, so restore into a copy of the arena's file and rename it. */
+ * arena has seen one) and `older` is not 1. The image does not change. A restore that is killed never lowers the mark,
+ * but may leave pairs of both, so restore into a copy of the arena's file and rename it. */
 uint64_t cuffgarnet_restore(uint64_t *arena, uint64_t n, const uint64_t *image, uint64_t image_n, uint64_t older);
 
 /* Writes an arena of format 1 into a second slice, in format 2: the same nodes at the same numbers, the same free nodes, pairs and

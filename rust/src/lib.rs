@@ -567,8 +567,8 @@ impl<W: Words> Index<W> {
 
     /// Brings the pairs of a snapshot back, unless it is older than this index: its mark is lower, or it has none while this has
     /// one. The mark becomes the larger of the two: a key that was ever put or reserved here, or in the snapshot, stays spent. The
-    /// mark of an arena that is lost is in neither: it has to be reserved first. A restore that is killed may have lowered the mark,
-    /// so restore into a copy and rename it (docs/OPERATING.md).
+    /// mark of an arena that is lost is in neither: it has to be reserved first. A restore that is killed never lowers the mark, but may
+    /// leave pairs of both, so restore into a copy and rename it (docs/OPERATING.md).
     ///
     /// # Errors
     /// [`Error::BadSize`] if the image is not as long as this index, [`Error::BadArena`], [`Error::BadImage`] if the

@@ -19,7 +19,10 @@ const READ: c_int = 1;
 const WRITE: c_int = 2;
 const SHARED_NO_FILE: c_int = 0x21;
 const PAGE: usize = 512; // words: 4,096 bytes
+const HEADER: usize = 10;
 const PAIRS: usize = 5;
+const SEEN: usize = 8;
+const MARK: usize = 9;
 
 /// Runs work on the words of an arena in a child that may write neither one word nor the 511 before it; hands out what it leaves.
 fn killed_at(word: usize, before: &[u64], work: impl Fn(&mut [u64])) -> Vec<u64> {
@@ -98,18 +101,33 @@ fn a_delete_that_is_killed_may_lose_another_pair_unseen() {
     assert_eq!((left.get(key), left.get(key - 1)), (Ok(Some(key)), Ok(None))); // asked for key, lost the one before it
 }
 
-/// The limit: a restore writes the image's mark first and raises it at its end, and in between the arena is well-formed with the
-/// image's mark. So an arena is never restored in place: docs/OPERATING.md.
+/// A restore raises the mark first, and its copy leaves the mark's words out. So wherever it is killed the mark is not lower; the pairs
+/// may be the arena's, the image's or some of each, or refused: docs/OPERATING.md. The stops are those that a page can make: at a
+/// word of the mark, at the first word of the copy, and at each word behind the header.
 #[test]
-fn a_restore_that_is_killed_may_lower_the_mark() {
-    let mut index = filled(1..=20);
-    let image = index.snapshot();
+fn a_restore_that_is_killed_never_lowers_the_mark() {
+    let mut index = Index::with_nodes(8).unwrap();
+    for key in 1..=20 {
+        index.insert(key, key).unwrap();
+    }
+    let early = index.snapshot();
     for key in 21..=25 {
         index.insert(key, key).unwrap();
     }
-    let left = killed_at(image.len() - 1, index.words(), |words| {
-        _ = Index::open(words).and_then(|mut index| index.restore_older(&image));
-    });
-    let left = Index::open(left).unwrap(); // believed
-    assert_eq!((index.mark(), left.mark()), (Ok(Some(25)), Ok(Some(20))));
+    let late = index.snapshot();
+    // the arena, the image, the arena's mark; where the mark rises, the page may end at the mark's words too
+    let turns: [(&[u64], &[u64], u64, &[usize]); 2] =
+        [(&late, &early, 25, &[]), (&early, &late, 20, &[SEEN, SEEN - 1])];
+    for (before, image, mark, rising) in turns {
+        let behind = HEADER + PAGE - 1..before.len() + PAGE - 1; // the page that ends here begins behind the header
+        for stop in behind.chain(rising.iter().copied()) {
+            let left = killed_at(stop, before, |words| {
+                _ = Index::open(words).and_then(|mut index| index.restore_older(image));
+            });
+            assert!(left[SEEN] == 1 && left[MARK] >= mark, "killed at {stop}");
+            if let Ok(left) = Index::open(left) {
+                assert!(left.mark().unwrap() >= Some(mark), "believed when killed at {stop}");
+            }
+        }
+    }
 }

@@ -4,11 +4,9 @@ use fix::bulk_steal_right;
 use fix::can_merge;
 use fix::do_merge;
 use internal::pop_internal_level;
-use node::HEIGHT;
 use node::MIN_LEN;
 use node::NodeNo;
 use node::Place;
-use node::ROOT;
 use node::edge;
 use node::len;
 ghost use mathlib.Core.Path.{_≡_};
@@ -23,8 +21,8 @@ pub fn fix_top(a: &mut [u64])
     requires { ⌜ RootedIn (now a) ⌝ }
     ensures { λ _. ⌜ ((g : Rest) (t : Grown) → Rooted (now (a .entry)) g t → Topped (now (a .exit)) g (tops t)) ⌝ }
 {
-    while a[HEIGHT] > 0 {
-        let root = NodeNo(a[ROOT] as usize);
+    while header::height(a) > 0 {
+        let root = header::root(a);
         if len(a, root) > 0 {
             return;
         }
@@ -76,8 +74,8 @@ fn fix_right_border_of_right_edge(a: &mut [u64])
     requires { ⌜ ToppedIn (now a) ⌝ }
     ensures { λ _. ⌜ ((g : Rest) (t : Grown) → Topped (now (a .entry)) g t → Rooted (now (a .exit)) g (down right t)) ⌝ }
 {
-    let mut node = NodeNo(a[ROOT] as usize);
-    let mut height = a[HEIGHT];
+    let mut node = header::root(a);
+    let mut height = header::height(a);
     while height > 0 {
         node = fix_right_child(a, node);
         height -= 1;
@@ -88,8 +86,8 @@ fn fix_left_border_of_left_edge(a: &mut [u64])
     requires { ⌜ ToppedIn (now a) ⌝ }
     ensures { λ _. ⌜ ((g : Rest) (t : Grown) → Topped (now (a .entry)) g t → Rooted (now (a .exit)) g (down left t)) ⌝ }
 {
-    let mut node = NodeNo(a[ROOT] as usize);
-    let mut height = a[HEIGHT];
+    let mut node = header::root(a);
+    let mut height = header::height(a);
     while height > 0 {
         node = fix_left_child(a, node);
         height -= 1;

@@ -5,6 +5,8 @@ use formats::edge_of;
 use formats::key_of;
 use formats::len_of;
 use formats::number;
+use header::HIGHEST;
+use header::LARGEST;
 use inspect::Last;
 use inspect::Visit;
 use inspect::above;
@@ -16,21 +18,11 @@ use inspect::own;
 use inspect::own_leaf;
 use model::Answer;
 use model::Layout;
-use node::COUNT;
-use node::FIRST_FREE;
-use node::FORMAT;
-use node::FREE_NODES;
 use node::HEADER;
-use node::HEIGHT;
-use node::MARK;
 use node::MIN_LEN;
 use node::NONE;
 use node::NodeNo;
-use node::OFFSET;
-use node::PAIRS;
 use node::Place;
-use node::ROOT;
-use node::SEEN;
 use node::total;
 ghost use mathlib.Core.Path.{_≡_};
 ghost use Prim.Native.Nat.{_<_, _≤_};
@@ -44,11 +36,6 @@ ghost use Rattle.formats.specs.Within.{WithinBy};
 ghost use Rattle.inspect.specs.Tests.{Decides, reached};
 ghost use Rattle.checker.specs.Walks.{Said, Counted, CountedBy, keyTask, keysTask, childOf, edgesTask, nodeTask};
 ghost use Rattle.checker.specs.Whole.{HeadingBy, tree, start, FinishedBy};
-
-// No well-formed tree is higher: so many nodes do not fit.
-const HIGHEST: u64 = 8;
-
-const LARGEST: u64 = 1_048_575;
 
 // What is left to be met, nodes and pairs, and the last key. It falls, so that hostile words cost no more than the nodes there are.
 pub struct Walk {
@@ -297,26 +284,26 @@ fn heading(f: Layout, a: &[u64]) -> bool
     if a.len() < HEADER {
         return false;
     }
-    if a[FORMAT] != number(f) {
+    if header::format(a) != number(f) {
         return false;
     }
-    let count = a[COUNT];
+    let count = header::count(a);
     if count == 0 {
         return false;
     }
     if count > LARGEST {
         return false;
     }
-    if a.len() != base_of(f, NodeNo(count as usize)) {
+    if a.len() != base_of(f, NodeNo(count)) {
         return false;
     }
-    if a[OFFSET] != HEADER as u64 {
+    if header::offset(a) != HEADER {
         return false;
     }
-    if a[HEIGHT] > HIGHEST {
+    if header::height(a) > HIGHEST {
         return false;
     }
-    if a[FREE_NODES] > count {
+    if header::free_nodes(a) > count {
         return false;
     }
     true
@@ -334,10 +321,11 @@ fn finished(f: Layout, a: &[u64], end: Walk) -> bool
     if end.pairs != 0 {
         return false;
     }
-    if !chain(f, a, a[COUNT] as usize, a[FIRST_FREE], a[FREE_NODES]) {
+    let free = header::free_nodes(a) as u64;
+    if !chain(f, a, header::count(a), header::first_free(a), free) {
         return false;
     }
-    marked(a[SEEN], a[MARK], last)
+    marked(header::seen(a), header::mark(a), last)
 }
 
 // The walk over the whole tree, from the root on.
@@ -345,18 +333,18 @@ fn walk_tree(f: Layout, a: &[u64]) -> Checked
     requires { ⌜ HeadingBy f (now a) ⌝ }
     ensures { λ r. ⌜ Said (tree f (now (a .entry))) (start (now (a .entry))) r ⌝ }
 {
-    let count = a[COUNT] as usize;
-    let height = a[HEIGHT] as usize;
+    let count = header::count(a);
+    let height = header::height(a);
     let root = Visit {
         below: height,
         fewest: root_fewest(height),
-        node: NodeNo(a[ROOT] as usize),
+        node: header::root(a),
         parent: NONE,
         place: Place(0),
     };
     let start = Walk {
-        nodes: count - a[FREE_NODES] as usize,
-        pairs: a[PAIRS] as usize,
+        nodes: count - header::free_nodes(a),
+        pairs: header::pairs(a) as usize,
         last: Last::Start,
     };
     check_node(f, a, count, root, start)

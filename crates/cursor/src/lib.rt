@@ -1,5 +1,7 @@
 // The walking cursor (map.rs, Cursor): a small value that goes from pair to pair, both ways. Each call checks the arena first.
 use checker::well_formed;
+use header::COUNT;
+use header::HEIGHT;
 use model::Answer;
 use model::Picked;
 use model::SearchBound;
@@ -9,9 +11,7 @@ use navigate::next_back_kv;
 use navigate::next_back_leaf_edge;
 use navigate::next_kv;
 use navigate::next_leaf_edge;
-use node::COUNT;
 use node::FREE;
-use node::HEIGHT;
 use node::INTERNAL;
 use node::NodeNo;
 use node::Place;

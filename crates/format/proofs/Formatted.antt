@@ -11,27 +11,15 @@ use lib.Seq.{take-all}
 use borrow.Author.Tests.{eq-eqb, ne-eqb}
 use Rattle.model.specs.declared.Answer.the-variants.{Done, BadSize}
 use Rattle.model.specs.Lists.{count, pad}
-use Rattle.model.specs.Layout.{none, formatNumber, headerSize, nodeSize, largestCount, free, leaf, base, Sized, formatWord, countWord, offsetWord, firstFreeWord, freeWord, stateWord, parentWord, frame, nodeWordsBy, nodeWords, cells, arenaBy}
+use Rattle.model.specs.Layout.{none, formatNumber, headerSize, nodeSize, free, leaf, base, Sized, formatWord, countWord, offsetWord, firstFreeWord, freeWord, stateWord, parentWord, frame, nodeWordsBy, nodeWords, cells, arenaBy}
 use Rattle.model.specs.State.{formatted}
 use Rattle.model.specs.Words.{Block, freeVal, firstOr, chainBlocks, valAt, nodesFrom, headerOf, wordsOfBy, wordsOf}
-use Rattle.model.specs.Promise.{AnyCount, Format}
+use Rattle.model.specs.Promise.{Format}
 use Rattle.slices.specs.Words.{splice}
 use Rattle.slices.proofs.Laws.{take-on, lent, splice-length}
-use Rattle.format.specs.Formatting.{Counted, chainAfter, emptyNode, freeNodes}
-
--- ---- the count
-
-pub counted : (n long : ℕ) → n ≤ largestCount → long ≡ base n → Counted long n
-counted zero long l e = λ a. omega (arith, a .sized .some, a .sized .long-is, e)
-counted (suc n) long l e = record { some = omega arith; few = l; long-is = e }
-
-pub sized : (n long : ℕ) → (n ≡ 0 → ⊥) → Counted long n → Sized n long
-sized zero long z c = absurd (z refl)
-sized (suc n) long z c = c
-
-pub unsized : (n long : ℕ) → n ≡ 0 → Counted long n → AnyCount long → ⊥
-unsized zero long z c = c
-unsized (suc n) long z c = absurd (omega arith)
+use Rattle.header.specs.Headers.{Counted}
+use Rattle.header.proofs.Headed.{unsized}
+use Rattle.format.specs.Formatting.{chainAfter, emptyNode, freeNodes}
 
 -- ---- the chain
 

@@ -3,14 +3,8 @@
 use Prim.Native.Nat.{ℕ, zero, suc, _+_, _-_}
 use mathlib.Core.List.{List, [], _∷_}
 use Rattle.model.specs.Lists.{count}
-use Rattle.model.specs.Layout.{Sized, NodeVal}
+use Rattle.model.specs.Layout.{NodeVal}
 use Rattle.model.specs.Words.{firstOr, freeVal}
-use Rattle.model.specs.Promise.{AnyCount}
-
--- how many nodes an arena of so many words has; 0 where no arena has that length
-abbrev pub Counted : ℕ → ℕ → Type 0
-Counted long zero = AnyCount long → ⊥
-Counted long (suc n) = Sized (suc n) long
 
 -- the nodes after i, of n in all
 abbrev pub chainAfter : ℕ → ℕ → List ℕ

@@ -1,15 +1,16 @@
 // Formatting: node 0 becomes an empty leaf root, and 1, 2, .. N-1 are chained in rising order.
+use header::COUNT;
+use header::FIRST_FREE;
+use header::FORMAT;
+use header::FREE_NODES;
+use header::OFFSET;
+use header::node_count;
 use model::Answer;
-use node::COUNT;
-use node::FIRST_FREE;
-use node::FORMAT;
 use node::FREE;
-use node::FREE_NODES;
 use node::HEADER;
 use node::LEAF;
 use node::NONE;
 use node::NodeNo;
-use node::OFFSET;
 use node::PARENT;
 use node::STATE;
 use node::WORDS;
@@ -24,27 +25,7 @@ ghost use Rattle.model.specs.State.{formatted};
 ghost use Rattle.model.specs.Words.{firstOr, headerOf, wordsOf};
 ghost use Rattle.model.specs.Public.{Promised};
 ghost use Rattle.model.specs.Public as promise;
-ghost use Rattle.format.specs.Formatting.{Counted, chainAfter, emptyNode, freeNodes};
-
-// The most nodes.
-const LARGEST: usize = 1_048_575;
-
-// How many nodes a slice of so many words is an arena of; 0 if of none.
-pub fn node_count(long: usize) -> usize
-    ensures { λ r. ⌜ Counted long r ⌝ }
-{
-    if long < HEADER {
-        return 0;
-    }
-    let count = (long - HEADER) / WORDS;
-    if count > LARGEST {
-        return 0;
-    }
-    if HEADER + WORDS * count != long {
-        return 0;
-    }
-    count
-}
+ghost use Rattle.format.specs.Formatting.{chainAfter, emptyNode, freeNodes};
 
 // The node after n in the chain, or NONE.
 fn next(n: usize, count: usize) -> u64

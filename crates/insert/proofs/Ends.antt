@@ -11,7 +11,7 @@ use lib.Seq.{set-getD, getD-set-same, getD-set-other, set-out}
 use borrow.Author.Tests.{le-leb, lt-leb}
 use Rattle.model.specs.declared.Answer.{Answer}
 use Rattle.model.specs.declared.Answer.the-variants.{Done, Value, Absent, NoRoom, BadArena, BadRange, BadOrder, BadSize, BadImage, StaleCursor, Spent, Older, NotRising}
-use Rattle.model.specs.Layout.{most, largestCount, header, pairsWord, freeWord, NodeVal, nth, blank, Arena}
+use Rattle.model.specs.Layout.{most, largestCount, header, pairsWord, freeWord, seenWord, markWord, NodeVal, nth, blank, Arena}
 use Rattle.model.specs.Tree.{Pair, Item, Tree, Ctx, Whole, plug, fill, flatOf}
 use Rattle.model.specs.Search.{Spot, at, gap, search}
 use Rattle.model.specs.Insert.{rise, needed}
@@ -46,7 +46,8 @@ use Rattle.standing.proofs.States.{laid-totals}
 use Rattle.leaf.specs.Pairs.{withPairs}
 use Rattle.shrinking.proofs.Pairs.{pair-ready, pair-is, replace-long, replace-step}
 use Rattle.standing.proofs.Heads.{plug-root, plug-top}
-use Rattle.insert.specs.Inserts.{Placed, PutIn, spent}
+use Rattle.header.specs.Headers.{raised}
+use Rattle.insert.specs.Inserts.{Placed, PutIn}
 
 -- ---- where the search ends
 
@@ -204,6 +205,9 @@ seen-spent : (k : ℕ) (m : Mark) → seenOf (spend k m) ≡ 1
 seen-spent k unseen = refl
 seen-spent k (seen a) = refl
 
+raised-in : (k : ℕ) {w w′ h : List ℕ} {ns : List NodeVal} → w′ ≡ raised k w → Arena w h ns → Arena w′ (raised k h) ns
+raised-in k {h = h} e a = rw (e, head-is a markWord (lit< tt)) (head-put (head-put a markWord (max (header h markWord) k) (lit< tt)) seenWord 1 (lit< tt))
+
 -- the count of pairs raised by so many
 abbrev pub Counts : List ℕ → List ℕ → ℕ → Type 0
 Counts w w′ more = (h : List ℕ) (ns : List NodeVal) → Arena w h ns → Arena w′ (set h pairsWord (header h pairsWord + more)) ns
@@ -223,10 +227,10 @@ module _ {w : List ℕ} {s : State} (o : Holds w s) (k v : ℕ) {w₁ : List ℕ
       let f = backward w s o in
       omega (arith, head-is (q .held .arena) pairsWord (lit< tt), few f, f .sized .few, ap (λ (x : List ℕ). header x pairsWord) (o .words) ∙ words-header (o .sound) pairsWord (lit< tt))
 
-  pub ended : (w₂ w₃ : List ℕ) → Counts w₁ w₂ more → ((h : List ℕ) (ns : List NodeVal) → Arena w₂ h ns → Arena w₃ (spent k h) ns) → Does (put k v s) w₃ r
-  ended w₂ w₃ count spends =
+  pub ended : (w₂ w₃ : List ℕ) → Counts w₁ w₂ more → w₃ ≡ raised k w₂ → Does (put k v s) w₃ r
+  ended w₂ w₃ count e =
       let d = put k v s in
-      let a = spends _ (q .held .nodes) (count _ (q .held .nodes) (q .held .arena)) in
+      let a = raised-in k e (count _ (q .held .nodes) (q .held .arena)) in
       record {
         left = closed-words (d .state) (put-sound k v s (o .sound)) a (rw (q .size-is, q .pairs-are, q .mark-is, mark-spent k (s .mark), seen-spent k (s .mark)) refl) (q .held .many ∙ sym (q .size-is)) (q .held .stand) (q .held .told);
         said = sym (q .said);

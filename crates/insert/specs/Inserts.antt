@@ -1,10 +1,10 @@
 -- What the parts of an insertion ask for and leave.
 -- Assumes nothing.
-use Prim.Native.Nat.{ℕ, suc, _+_, _≤_, max}
+use Prim.Native.Nat.{ℕ, suc, _+_, _≤_}
 use mathlib.Core.Path.{_≡_}
 use mathlib.Core.List.{List}
-use lib.ListN.{length, set}
-use Rattle.model.specs.Layout.{header, seenWord, markWord, wordAt, parentWord, placeWord}
+use lib.ListN.{length}
+use Rattle.model.specs.Layout.{wordAt, parentWord, placeWord}
 use Rattle.model.specs.Tree.{Pair}
 use Rattle.model.specs.Nodes.{Grown}
 use Rattle.model.specs.Insert.{needed}
@@ -103,7 +103,3 @@ PutIn k s d w w′ StaleCursor = ⊥
 PutIn k s d w w′ NotRising = ⊥
 PutIn k s d w w′ Spent = ⊥
 PutIn k s d w w′ Older = ⊥
-
--- the header with a key spent
-abbrev pub spent : ℕ → List ℕ → List ℕ
-spent k h = set (set h markWord (max (header h markWord) k)) seenWord 1

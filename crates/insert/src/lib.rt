@@ -5,17 +5,11 @@ use leaf::replace_kv;
 use model::Answer;
 use node::Ascent;
 use node::CAPACITY;
-use node::FREE_NODES;
-use node::HEIGHT;
 use node::Kv;
 use node::LeftOrRight;
-use node::MARK;
 use node::NodeNo;
-use node::PAIRS;
 use node::Place;
-use node::SEEN;
 use node::ascend;
-use node::larger;
 use node::len;
 use node::splitpoint;
 use search::Handle;
@@ -25,9 +19,7 @@ use totals::set_right;
 use totals::settle;
 ghost use mathlib.Core.Path.{_≡_};
 ghost use mathlib.Core.List.{List};
-ghost use Prim.Native.Nat.{ℕ, suc, _≤_, max};
-ghost use lib.ListN.{length};
-ghost use Rattle.model.specs.Layout.{headerSize, NodeVal, Arena};
+ghost use Prim.Native.Nat.{ℕ, suc};
 ghost use Rattle.model.specs.Nodes.{Grown};
 ghost use Rattle.model.specs.Tree.{Pair};
 ghost use Rattle.model.specs.Insert.{rise, needed};
@@ -38,7 +30,7 @@ ghost use Rattle.node.specs.Reading.{pairOf};
 ghost use Rattle.navigate.specs.Places.{In, EdgeAt};
 ghost use Rattle.standing.specs.Heads.{Rest, restOf, ClosedIn};
 ghost use Rattle.growing.specs.Climbs.{Gap, Climbing};
-ghost use Rattle.insert.specs.Inserts.{targetOf, RawOutcome, Outcome, Unsettled, InnerGap, ClimbIn, AtRoot, Roomy, PutIn, spent};
+ghost use Rattle.insert.specs.Inserts.{targetOf, RawOutcome, Outcome, Unsettled, InnerGap, ClimbIn, AtRoot, Roomy, PutIn};
 
 // What an insertion leaves for the level above: nothing, or a pair and the node right of it.
 pub enum Inserted {
@@ -158,7 +150,7 @@ pub fn insert_recursing(a: &mut [u64], edge: Handle, kv: Kv)
     requires { ⌜ In (now a) (λ s. Roomy s edge) ⌝ }
     ensures { λ _. ⌜ ((s : model.State) → Holds (now (a .entry)) s → (y : Roomy s edge) → ClosedIn (now (a .exit)) (restOf s) (rise (y .edge .way) tt (pairOf kv) tt (s .free))) ⌝ }
 {
-    let mut levels = a[HEIGHT] as usize;
+    let mut levels = header::height(a);
     let mut node = edge.node;
     let at = edge.at;
     let mut inserted = insert_leaf(a, node, at, kv);
@@ -183,7 +175,7 @@ pub fn nodes_needed(a: &[u64], edge: Handle) -> usize
     requires { ⌜ In (now a) (λ s. EdgeAt s edge) ⌝ }
     ensures { λ r. ⌜ ((s : model.State) → Holds (now (a .entry)) s → (y : EdgeAt s edge) → r ≡ needed (y .way)) ⌝ }
 {
-    let top = a[HEIGHT] as usize;
+    let top = header::height(a);
     let mut node = edge.node;
     let mut count = 0;
     loop {
@@ -196,16 +188,6 @@ pub fn nodes_needed(a: &[u64], edge: Handle) -> usize
         node = parent;
         count += 1;
     }
-}
-
-// A key is spent: the mark rises to it if that is larger or nothing was seen.
-fn spend(a: &mut [u64], key: u64)
-    requires { ⌜ headerSize ≤ length (now a) ⌝ }
-    ensures { λ _. ⌜ ((h : List ℕ) (ns : List NodeVal) → Arena (now (a .entry)) h ns → Arena (now (a .exit)) (spent key h) ns) ⌝ }
-{
-    let mark = larger(a[MARK], key);
-    a[MARK] = mark;
-    a[SEEN] = 1;
 }
 
 // Puts a pair where it belongs. A present key's value is replaced only; an absent key lacks nodes, or comes in at its leaf edge.
@@ -222,7 +204,7 @@ fn put_pair(a: &mut [u64], kv: Kv) -> Answer
             return Answer::Value(old.1);
         }
         SearchResult::GoDown(edge) => {
-            let free = a[FREE_NODES] as usize;
+            let free = header::free_nodes(a);
             let need = nodes_needed(a, edge);
             if free < need {
                 return Answer::NoRoom;
@@ -243,8 +225,8 @@ pub fn put(a: &mut [u64], key: u64, val: u64) -> Answer
         return answer;
     }
     if let Answer::Done = answer {
-        a[PAIRS] = a[PAIRS] + 1;
+        header::count_on(a);
     }
-    spend(a, key);
+    header::raise_mark(a, key);
     answer
 }

@@ -5,12 +5,10 @@ use columns::remove_word;
 use leaf::SplitResult;
 use leaf::split_leaf_data;
 use node::EDGES;
-use node::HEIGHT;
 use node::INTERNAL;
 use node::Kv;
 use node::NodeNo;
 use node::Place;
-use node::ROOT;
 use node::len;
 use store::clear_parent_link;
 use store::correct_childrens_parent_links;
@@ -43,11 +41,10 @@ pub fn push_internal_level(a: &mut [u64]) -> NodeNo
     requires { ⌜ Has (now a) (λ h ns. Pushable h ns) ⌝ }
     ensures { λ r. ⌜ ((h : List ℕ) (ns : List NodeVal) (free : List ℕ) → PushReady h ns free → Arena (now (a .entry)) h ns → (r .0 ≡ taken free) × Arena (now (a .exit)) (pushHead h free) (pushNodes h free ns)) ⌝ }
 {
-    let old = NodeNo(a[ROOT] as usize);
-    let height = a[HEIGHT] + 1;
+    let old = header::root(a);
+    let height = header::height(a) + 1;
     let top = new_internal(a, old);
-    a[ROOT] = top.0 as u64;
-    a[HEIGHT] = height;
+    header::set_root(a, top, height);
     top
 }
 
@@ -56,13 +53,12 @@ pub fn pop_internal_level(a: &mut [u64])
     requires { ⌜ Has (now a) (λ h ns. Poppable h ns) ⌝ }
     ensures { λ _. ⌜ ((h : List ℕ) (ns : List NodeVal) (free : List ℕ) → PopReady h ns free → Arena (now (a .entry)) h ns → Arena (now (a .exit)) (popHead h free ns) (popNodes h free ns)) ⌝ }
 {
-    let top = NodeNo(a[ROOT] as usize);
-    let height = a[HEIGHT] - 1;
-    let child = remove_word(a, top, EDGES, 1, 0);
-    clear_parent_link(a, NodeNo(child as usize));
+    let top = header::root(a);
+    let height = header::height(a) - 1;
+    let child = NodeNo(remove_word(a, top, EDGES, 1, 0) as usize);
+    clear_parent_link(a, child);
     return_node(a, top);
-    a[ROOT] = child;
-    a[HEIGHT] = height;
+    header::set_root(a, child, height);
 }
 
 // Puts a pair in at an edge of an internal node that has room, and an edge right of it.

@@ -2,8 +2,8 @@
 use append::load_formatted;
 use append::nodes_for;
 use append::rises;
-use format::node_count;
 use format::write_all;
+use header::node_count;
 use model::Answer;
 ghost use Rattle.model.specs.Public.{Promised};
 ghost use Rattle.model.specs.Public as promise;

@@ -143,10 +143,6 @@ climb-start Q {s} o d y q = go (y .way) (y .whole) (y .is) q
 pub climb-top : (Q : (h : ℕ) → Ctx h → Tree h → Type 0) {w : List ℕ} {s : State} → Holds w s → {n h i : ℕ} → Climb Q s n h i → h ≤ header w heightWord
 climb-top Q {w} {s} o y = let e : header w heightWord ≡ pred (s .whole .height) = ap (λ (x : List ℕ). header x heightWord) (o .words) ∙ words-header (o .sound) heightWord (omega arith) in omega (arith, climb-high Q o y)
 
--- the header is there
-pub header-in : {w : List ℕ} {s : State} → Holds w s → (i : ℕ) → i < 10 → i < length w
-header-in o i l = omega (arith, ap length (o .words) ∙ words-long (o .sound), o .sound .some)
-
 -- a pair of the node
 kv-at : (Q : (h : ℕ) → Ctx h → Tree h → Type 0) {w : List ℕ} {s : State} (o : Holds w s) {n h i : ℕ} (y : Climb Q s n h i) {j : ℕ} (k : ℕ) → j ≡ k → Kv (handle (y .frame .no) h j) ≡ Kv (handle n h k)
 kv-at Q o {n} {h} y {j} k e = ap (λ (m : ℕ). Kv (handle m h j)) (y .node-is) ∙ ap (λ (j : ℕ). Kv (handle n h j)) e

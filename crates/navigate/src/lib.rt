@@ -1,10 +1,8 @@
 // Steps along the pairs, by parent words, and the leaf edge of a start bound (navigate.rs).
 use model::SearchBound;
 use node::Ascent;
-use node::HEIGHT;
 use node::NodeNo;
 use node::Place;
-use node::ROOT;
 use node::ascend;
 use node::edge;
 use node::keys;
@@ -33,7 +31,7 @@ pub fn next_kv(a: &[u64], from: Handle) -> Next
     requires { ⌜ In (now a) (λ s. EdgeAt s from) ⌝ }
     ensures { λ r. ⌜ ((s : State) → Holds (now (a .entry)) s → (y : EdgeAt s from) → r ≡ stepped (nextKv (y .way))) ⌝ }
 {
-    let top = a[HEIGHT] as usize;
+    let top = header::height(a);
     let mut node = from.node;
     let mut height = from.height;
     let mut at = from.at;
@@ -56,7 +54,7 @@ pub fn next_back_kv(a: &[u64], from: Handle) -> Next
     requires { ⌜ In (now a) (λ s. EdgeAt s from) ⌝ }
     ensures { λ r. ⌜ ((s : State) → Holds (now (a .entry)) s → (y : EdgeAt s from) → r ≡ stepped (backKv (y .way))) ⌝ }
 {
-    let top = a[HEIGHT] as usize;
+    let top = header::height(a);
     let mut node = from.node;
     let mut height = from.height;
     let mut at = from.at;
@@ -125,8 +123,8 @@ pub fn lower_leaf_edge(a: &[u64], start: SearchBound) -> Handle
     requires { ⌜ WellFormed (now a) ⌝ }
     ensures { λ r. ⌜ ((s : State) → Holds (now (a .entry)) s → r ≡ leafEdge (sink (starts start) (s .whole .height) top (s .whole .root))) ⌝ }
 {
-    let mut node = NodeNo(a[ROOT] as usize);
-    let mut height = a[HEIGHT] as usize;
+    let mut node = header::root(a);
+    let mut height = header::height(a);
     let mut bound = start;
     loop {
         let part = keys(a, node);

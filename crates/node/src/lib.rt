@@ -14,27 +14,6 @@ pub const HEADER: usize = 10;
 
 pub const WORDS: usize = 39;
 
-// The places of the header's words.
-pub const FORMAT: usize = 0;
-
-pub const COUNT: usize = 1;
-
-pub const OFFSET: usize = 2;
-
-pub const ROOT: usize = 3;
-
-pub const HEIGHT: usize = 4;
-
-pub const PAIRS: usize = 5;
-
-pub const FIRST_FREE: usize = 6;
-
-pub const FREE_NODES: usize = 7;
-
-pub const SEEN: usize = 8;
-
-pub const MARK: usize = 9;
-
 // The pairs that a node holds at most, and at least if it is not the root.
 pub const CAPACITY: usize = 11;
 

@@ -6,11 +6,8 @@ use model::Counted;
 use model::Picked;
 use model::Range;
 use model::SearchBound;
-use node::HEIGHT;
 use node::NodeNo;
-use node::PAIRS;
 use node::Place;
-use node::ROOT;
 use node::edge;
 use node::key;
 use node::keys;
@@ -62,8 +59,8 @@ pub fn passed(a: &[u64], start: SearchBound) -> u64
     requires { ⌜ WellFormed (now a) ⌝ }
     ensures { λ r. ⌜ ((s : State) → Holds (now (a .entry)) s → r ≡ length (before (sink (starts start) (s .whole .height) top (s .whole .root)))) ⌝ }
 {
-    let mut node = NodeNo(a[ROOT] as usize);
-    let mut height = a[HEIGHT] as usize;
+    let mut node = header::root(a);
+    let mut height = header::height(a);
     let mut bound = start;
     let mut sum: u64 = 0;
     loop {
@@ -175,8 +172,8 @@ fn pick(a: &[u64], rank: u64) -> Handle
     requires { ⌜ WellFormed (now a) × (rank < header (now a) pairsWord) ⌝ }
     ensures { λ r. ⌜ ((s : State) → Holds (now (a .entry)) s → Picking s rank r) ⌝ }
 {
-    let mut node = NodeNo(a[ROOT] as usize);
-    let mut height = a[HEIGHT] as usize;
+    let mut node = header::root(a);
+    let mut height = header::height(a);
     let mut rest = rank;
     loop {
         if height == 0 {
@@ -207,7 +204,7 @@ pub fn at(a: &[u64], rank: u64) -> Picked
             key: 0,
         };
     }
-    if rank >= a[PAIRS] {
+    if rank >= header::pairs(a) {
         return Picked {
             answer: Answer::Absent,
             key: 0,

@@ -108,13 +108,13 @@ module _ {w : List ℕ} {s : State} (o : Holds w s) {d : Handle} (y : LeafKv s d
     H₁ : HoleIn w₁ (restOf s) (y .ctx) rest (s .free)
     H₁ = call s o y′ .1
 
-    pub pairs-word : (pairsWord < length w₁) × (header w₁ pairsWord ≡ suc (length (list (without s y))))
+    pub pairs-word : (headerSize ≤ length w₁) × (header w₁ pairsWord ≡ suc (length (list (without s y))))
     pairs-word = (omega (arith, arena-length (H₁ .arena)), arena-header (H₁ .arena) pairsWord (omega arith) ∙ fewer)
 
     -- the repair that is now to be made
-    pub leaf-mending : (v : ℕ) → v ≡ header w₁ pairsWord - 1 → Mending (set w₁ pairsWord v) (restOf (without s y)) (d .node .0) (leaf-end y)
-    leaf-mending v ev =
-        let q : v ≡ length (list (without s y)) = omega (arith, pairs-word .1) in
+    pub leaf-mending : {w₂ : List ℕ} → w₂ ≡ set w₁ pairsWord (header w₁ pairsWord - 1) → Mending w₂ (restOf (without s y)) (d .node .0) (leaf-end y)
+    leaf-mending e =
+        let q : header w₁ pairsWord - 1 ≡ length (list (without s y)) = omega (arith, pairs-word .1) in
         let u = unplug-full (y .ctx) was (subst FullWhole (sym (y .whole)) (of-full (s .whole .height) (s .whole .root) (o .sound .full))) in
         record {
           height = 0;
@@ -123,7 +123,7 @@ module _ {w : List ℕ} {s : State} (o : Holds w s) {d : Handle} (y : LeafKv s d
           free = s .free;
           held = record {
             nodes = H₁ .nodes;
-            arena = rw q (head-put (H₁ .arena) pairsWord (length (list (without s y))) (omega arith));
+            arena = rw (e, q) (head-put (H₁ .arena) pairsWord (length (list (without s y))) (omega arith));
             stand = H₁ .stand;
             many = H₁ .many;
             told = H₁ .told;

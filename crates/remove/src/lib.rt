@@ -4,10 +4,8 @@ use internal::pop_internal_level;
 use leaf::replace_kv;
 use model::Answer;
 use navigate::next_back_leaf_edge;
-use node::HEIGHT;
 use node::Kv;
 use node::NodeNo;
-use node::PAIRS;
 use node::Place;
 use node::key;
 use node::len;
@@ -44,12 +42,11 @@ pub fn remove_leaf_kv(a: &mut [u64], kv: Handle) -> Kv
     let node = kv.node;
     let at = kv.at;
     let old = take_pair(a, node, at);
-    let left = a[PAIRS] - 1;
-    a[PAIRS] = left;
+    header::count_off(a);
     if fix_node_and_affected_ancestors(a, node) {
         return old;
     }
-    if a[HEIGHT] > 0 {
+    if header::height(a) > 0 {
         pop_internal_level(a);
         return old;
     }

@@ -1,7 +1,5 @@
 // Reserve: a counter is spent when it is handed out, before its message is put.
 use model::Answer;
-use node::MARK;
-use node::SEEN;
 ghost use mathlib.Core.Path.{_≡_};
 ghost use Prim.Native.Nat.{_≤_};
 ghost use lib.ListN.{length};
@@ -16,10 +14,10 @@ fn reached(a: &[u64], key: u64) -> bool
     requires { ⌜ headerSize ≤ length (now a) ⌝ }
     ensures { λ r. ⌜ r ≡ mark.reached key (mark.storedMark (now (a .entry))) ⌝ }
 {
-    if a[SEEN] == 0 {
+    if header::seen(a) == 0 {
         return false;
     }
-    key <= a[MARK]
+    key <= header::mark(a)
 }
 
 // Behind a checked arena: a key above the mark becomes the mark, any other is spent already.
@@ -30,7 +28,6 @@ pub fn reserve(a: &mut [u64], key: u64) -> Answer
     if reached(a, key) {
         return Answer::Spent;
     }
-    a[SEEN] = 1;
-    a[MARK] = key;
+    header::raise_mark(a, key);
     Answer::Done
 }

@@ -1,41 +1,42 @@
 // Restore: an image's words over the arena's, but the mark never falls.
 use checker::well_formed;
 use model::Answer;
-use node::MARK;
-use node::SEEN;
-use node::larger;
+use node::HEADER;
+use slices::copy_from_slice;
 ghost use mathlib.Core.Path.{_≡_};
 ghost use mathlib.Core.Bool.{true, false};
-ghost use Prim.Native.Nat.{_≤_, max};
-ghost use lib.ListN.{length, getD, set};
-ghost use Rattle.model.specs.Layout.{headerSize, seenWord, markWord};
+ghost use Prim.Native.Nat.{_≤_};
+ghost use lib.ListN.{length, set};
+ghost use Rattle.model.specs.Layout.{headerSize, header, seenWord, markWord};
 ghost use Rattle.model.specs.Mark as mark;
+ghost use Rattle.model.specs.WellFormed.{WellFormed};
 ghost use Rattle.inspect.specs.Tests.{Decides};
 ghost use Rattle.model.specs.Public.{Promised};
 ghost use Rattle.model.specs.Public as promise;
+ghost use Rattle.restore.specs.Raising.{Raised};
 
-// Copies every word of as long a slice.
-fn copy_over(a: &mut [u64], image: &[u64])
-    requires { ⌜ length (now image) ≡ length (now a) ⌝ }
-    ensures { λ _. ⌜ now (a .exit) ≡ now (image .entry) ⌝ }
+// The mark rises to the image's, where that is higher.
+fn raise_to(a: &mut [u64], image: &[u64])
+    requires { ⌜ WellFormed (now a) × WellFormed (now image) ⌝ }
+    ensures { λ _. ⌜ Raised (now (a .entry)) (now (image .entry)) (now (a .exit)) ⌝ }
 {
-    let mut i = 0;
-    while i < a.len() {
-        let t = image[i];
-        a[i] = t;
-        i += 1;
+    if header::seen(image) == 0 {
+        return;
     }
+    let mark = header::mark(image);
+    header::raise_mark(a, mark);
 }
 
-// Raises the mark's two words to those of another mark, where they are lower.
-fn keep_mark(a: &mut [u64], seen: u64, mark: u64)
-    requires { ⌜ headerSize ≤ length (now a) ⌝ }
-    ensures { λ _. ⌜ now (a .exit) ≡ set (set (now (a .entry)) seenWord (max seen (getD (now (a .entry)) seenWord 0))) markWord (max mark (getD (now (a .entry)) markWord 0)) ⌝ }
+// Copies every word of as long a slice but the mark's two, which are the header's last: no kill can leave a lower mark.
+fn copy_but_mark(a: &mut [u64], image: &[u64])
+    requires { ⌜ (headerSize ≤ length (now a)) × (length (now image) ≡ length (now a)) ⌝ }
+    ensures { λ _. ⌜ now (a .exit) ≡ set (set (now (image .entry)) seenWord (header (now (a .entry)) seenWord)) markWord (header (now (a .entry)) markWord) ⌝ }
 {
-    let s = larger(seen, a[SEEN]);
-    let m = larger(mark, a[MARK]);
-    a[SEEN] = s;
-    a[MARK] = m;
+    let m = HEADER - 2;
+    copy_from_slice(&mut a[0..m], &image[0..m]);
+    let b = HEADER;
+    let e = a.len();
+    copy_from_slice(&mut a[b..e], &image[b..e]);
 }
 
 // Whether an image's mark is lower than the arena's, which was seen.
@@ -43,13 +44,13 @@ fn lower(image: &[u64], a: &[u64]) -> bool
     requires { ⌜ (headerSize ≤ length (now image)) × (headerSize ≤ length (now a)) ⌝ }
     ensures { λ r. ⌜ r ≡ mark.lower (mark.storedMark (now (image .entry))) (mark.storedMark (now (a .entry))) ⌝ }
 {
-    if a[SEEN] == 0 {
+    if header::seen(a) == 0 {
         return false;
     }
-    if image[SEEN] == 0 {
+    if header::seen(image) == 0 {
         return true;
     }
-    image[MARK] < a[MARK]
+    header::mark(image) < header::mark(a)
 }
 
 // Whether an image with a lower mark comes without the word that an older one is meant.
@@ -63,8 +64,8 @@ fn too_old(image: &[u64], a: &[u64], older: bool) -> bool
     lower(image, a)
 }
 
-// Copies the image's words over the arena; seen is 1 if either had it, and the mark is the larger of those seen. An image with a lower mark
-// than the arena's needs the word that an older one is meant.
+// Copies the image's words over the arena; seen is 1 if either had it, and the mark is the larger of those seen. It is raised first. An
+// image with a lower mark than the arena's needs the word that an older one is meant.
 pub fn restore(a: &mut [u64], image: &[u64], older: bool) -> Answer
     ensures { λ r. ⌜ Promised (promise.restore older (now (image .entry))) (now (a .entry)) (now (a .exit)) tt r ⌝ }
 {
@@ -80,9 +81,7 @@ pub fn restore(a: &mut [u64], image: &[u64], older: bool) -> Answer
     if too_old(image, a, older) {
         return Answer::Older;
     }
-    let seen = a[SEEN];
-    let mark = a[MARK];
-    copy_over(a, image);
-    keep_mark(a, seen, mark);
+    raise_to(a, image);
+    copy_but_mark(a, image);
     Answer::Done
 }

@@ -29,10 +29,6 @@ use Rattle.search.specs.declared.Bifurcation.the-variants.{Parted, Toget
 use Rattle.search.specs.Results.{handle, leafEdge, spotted, edged, forked}
 use Rattle.search.proofs.Indexes.{indexFrom}
 
--- the header is there
-pub header-in : {w : List ℕ} → WellFormed w → (i : ℕ) → i < 10 → i < length w
-header-in f i l = omega (arith, f .sized .long-is)
-
 rises : (ks : List ℕ) → Ascends ks → Rises ks
 rises [] a = tt
 rises (k ∷ ks) a = (a .0, rises ks (a .1))

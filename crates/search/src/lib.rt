@@ -1,10 +1,8 @@
 // Search in the tree: of a key, and of the edges of a range (search.rs).
 use model::Range;
 use model::SearchBound;
-use node::HEIGHT;
 use node::NodeNo;
 use node::Place;
-use node::ROOT;
 use node::edge;
 use node::keys;
 use node::node_base;
@@ -64,8 +62,8 @@ pub fn search_tree(a: &[u64], key: u64) -> SearchResult
     requires { ⌜ WellFormed (now a) ⌝ }
     ensures { λ r. ⌜ ((s : State) → Holds (now (a .entry)) s → r ≡ spotted (model.search key (s .whole))) ⌝ }
 {
-    let mut node = NodeNo(a[ROOT] as usize);
-    let mut height = a[HEIGHT] as usize;
+    let mut node = header::root(a);
+    let mut height = header::height(a);
     'levels: loop {
         let part = keys(a, node);
         let n = part.len();
@@ -138,8 +136,8 @@ pub fn search_tree_for_bifurcation(a: &[u64], range: Range) -> Bifurcation
     requires { ⌜ WellFormed (now a) ⌝ }
     ensures { λ r. ⌜ ((s : State) → Holds (now (a .entry)) s → r ≡ forked (forkOf range (s .whole))) ⌝ }
 {
-    let mut node = NodeNo(a[ROOT] as usize);
-    let mut height = a[HEIGHT] as usize;
+    let mut node = header::root(a);
+    let mut height = header::height(a);
     let mut bounds = range;
     loop {
         let part = keys(a, node);

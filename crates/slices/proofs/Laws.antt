@@ -200,6 +200,16 @@ copied-up a l from to k j n m d b h o q =
     let t : to + j ≡ (to + k) + 1 = omega arith in
     rw (q, g, b, part-cons l (from + k) n (omega arith), ← f) (rw t (splice-cons l (to + k) n s (getD l (from + k) 0) (omega arith)))
 
+-- ---- a turn of the copy of another slice: one more word is the other's
+pub copy-turn : (l m : List ℕ) (i : ℕ) → i < length l → i < length m → set (take i m ++ drop i l) i (getD m i 0) ≡ take (i + 1) m ++ drop (i + 1) l
+copy-turn l m i h g =
+    rw (add-one i, drop-cons l i 0 h, take-suc m i 0 g)
+    (set-at (take i m) (getD l i 0) (drop (suc i) l) (getD m i 0) i (length-take-le i m (omega arith)) ∙ sym (append-snoc (take i m) (getD m i 0) (drop (suc i) l)))
+
+-- every word is
+pub copy-whole : (l m : List ℕ) (i : ℕ) → length l ≤ i → length m ≤ i → take i m ++ drop i l ≡ m
+copy-whole l m i h g = rw (take-all i m g, drop-of-length-le l {i = i} h) (append-nil m)
+
 -- no word is written over
 pub splice-none : (l : List ℕ) (i k n : ℕ) → n ≡ 0 → l ≡ splice l i n (part l k n)
 unfolding splice part

@@ -94,6 +94,19 @@ fn copy_up(a: &mut [u64], from: usize, to: usize, count: usize)
     }
 }
 
+// Copies every word of as long a slice.
+pub fn copy_from_slice(s: &mut [u64], src: &[u64])
+    requires { ⌜ length (now src) ≡ length (now s) ⌝ }
+    ensures { λ _. ⌜ now (s .exit) ≡ now (src .entry) ⌝ }
+{
+    let mut i = 0;
+    while i < s.len() {
+        let t = src[i];
+        s[i] = t;
+        i += 1;
+    }
+}
+
 // Zeros in every word.
 pub fn clear(s: &mut [u64])
     ensures { λ _. ⌜ now (s .exit) ≡ replicate (length (now (s .entry))) 0 ⌝ }

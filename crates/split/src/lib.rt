@@ -1,9 +1,9 @@
 // A tree cut along the way to a leaf edge, from the leaf up (split.rs): each node keeps what is left of the way.
 use columns::set_len;
+use header::HEIGHT;
 use node::Ascent;
 use node::CAPACITY;
 use node::EDGES;
-use node::HEIGHT;
 use node::KEYS;
 use node::NodeNo;
 use node::Place;

@@ -8,7 +8,7 @@ use native.Mathlib.Nat.{not-suc-le-zero}
 use native.Mathlib.Omega.{arith}
 use lib.Dec.{lit<}
 use lib.ListN.{length, getD, set, length-map, length-set}
-use lib.Seq.{getD-set-other, set-getD}
+use lib.Seq.{getD-set-other}
 use Rattle.model.specs.Lists.{All}
 use Rattle.model.specs.Layout as layout
 use Rattle.model.specs.Layout.{none, header, headerSize, base, stateWord, parentWord, placeWord, totalWord, firstFreeWord, freeWord, wordAt, NodeVal, nth, blank, Arena}
@@ -127,7 +127,5 @@ module _ {w h : List ℕ} {ns : List NodeVal} (a : Arena w h ns) (free : List �
     pub before-bare : (k : ℕ) → (p < length (set ns n (freeVal k))) × (nth (set ns n (freeVal k)) p .pairs ≡ []) × (nth (set ns n (freeVal k)) p .edges ≡ [])
     before-bare k = (rw length-set before-in, rw (mid-is k) refl, rw (mid-is k) refl)
 
-    pub returned-behind : {w₂ : List ℕ} → Arena w₂ h (set (set ns n (freeVal (nth ns p .parent))) p (freeVal n)) → Arena (set w₂ freeWord left) (returnHead h free n) (returnNode ns free n)
-    returned-behind b =
-        let same : set h firstFreeWord (firstOr free) ≡ h = ap (set h firstFreeWord) (sym (r .frees .first)) ∙ set-getD h firstFreeWord 0 in
-        rw (some .0, some .1, same, ← left-is) (head-put b freeWord left (lit< tt))
+    pub returned-behind : {w₂ : List ℕ} (first : ℕ) → first ≡ getD w firstFreeWord 0 → Arena w₂ h (set (set ns n (freeVal (nth ns p .parent))) p (freeVal n)) → Arena (set (set w₂ firstFreeWord first) freeWord left) (returnHead h free n) (returnNode ns free n)
+    returned-behind first ef b = rw (ef ∙ first-is, some .0, some .1, ← left-is) (head-put (head-put b firstFreeWord (firstOr free) (lit< tt)) freeWord left (lit< tt))

@@ -1,7 +1,5 @@
 // Nodes taken and returned, and the links from children to their parent.
-use node::FIRST_FREE;
 use node::FREE;
-use node::FREE_NODES;
 use node::NONE;
 use node::NodeNo;
 use node::PARENT;
@@ -28,14 +26,13 @@ pub fn take_node(a: &mut [u64], state: u64) -> NodeNo
     requires { ⌜ Has (now a) (λ h ns. Takeable h ns) ⌝ }
     ensures { λ r. ⌜ ((h : List ℕ) (ns : List NodeVal) (free : List ℕ) → TakeReady h ns free → Arena (now (a .entry)) h ns → (r .0 ≡ taken free) × Arena (now (a .exit)) (takeHead h free) (takeNode ns free state)) ⌝ }
 {
-    let n = NodeNo(a[FIRST_FREE] as usize);
+    let n = NodeNo(header::first_free(a) as usize);
     let next = parent(a, n);
-    let left = a[FREE_NODES] - 1;
+    let left = header::free_nodes(a) - 1;
     let b = node_base(n);
     a[b + STATE] = state;
     a[b + PARENT] = NONE;
-    a[FIRST_FREE] = next;
-    a[FREE_NODES] = left;
+    header::set_free_nodes(a, next, left);
     n
 }
 
@@ -46,7 +43,7 @@ fn free_before(a: &[u64], n: NodeNo) -> u64
     ensures { λ r. ⌜ ((h : List ℕ) (ns : List NodeVal) (free : List ℕ) → ReturnReady h ns free (n .0) → Arena (now (a .entry)) h ns → r ≡ lastBelow (n .0) none free) ⌝ }
 {
     let mut before = NONE;
-    let mut next = a[FIRST_FREE];
+    let mut next = header::first_free(a);
     let mut down = n.0;
     while next < n.0 as u64 {
         down -= 1;
@@ -76,20 +73,19 @@ pub fn return_node(a: &mut [u64], n: NodeNo)
     requires { ⌜ Has (now a) (λ h ns. Returnable h ns (n .0)) ⌝ }
     ensures { λ _. ⌜ ((h : List ℕ) (ns : List NodeVal) (free : List ℕ) → ReturnReady h ns free (n .0) → Arena (now (a .entry)) h ns → Arena (now (a .exit)) (returnHead h free (n .0)) (returnNode ns free (n .0))) ⌝ }
 {
-    let left = a[FREE_NODES] + 1;
+    let first = header::first_free(a);
+    let left = header::free_nodes(a) + 1;
     let before = free_before(a, n);
     if before == NONE {
-        let first = a[FIRST_FREE];
         set_free(a, n, first);
-        a[FIRST_FREE] = n.0 as u64;
-        a[FREE_NODES] = left;
+        header::set_free_nodes(a, n.0 as u64, left);
         return;
     }
     let low = NodeNo(before as usize);
     let next = parent(a, low);
     set_free(a, n, next);
     set_free(a, low, n.0 as u64);
-    a[FREE_NODES] = left;
+    header::set_free_nodes(a, first, left);
 }
 
 // Writes where a node hangs.

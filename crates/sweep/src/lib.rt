@@ -1,8 +1,8 @@
 // One pass over all nodes, from the last: the nodes right of a cut, and those that were free before it, become the free chain.
-use node::COUNT;
-use node::FIRST_FREE;
+use header::COUNT;
+use header::FIRST_FREE;
+use header::FREE_NODES;
 use node::FREE;
-use node::FREE_NODES;
 use node::NONE;
 use node::NodeNo;
 use node::PARENT;

@@ -426,12 +426,12 @@ module _ {w hd : List ℕ} {ns : List NodeVal} {n levels was now : ℕ} (S : Set
 
 -- ---- where it begins
 
-pub lift-begin : {w hd : List ℕ} {ns : List NodeVal} {n was now : ℕ} → Arena w hd ns → Lifts ns n (header hd heightWord) was now → Settling w hd ns n (getD w heightWord 0) was now
-lift-begin {w} {hd} {ns} {n} {was} {now} a l = record {
+pub lift-begin : {w hd : List ℕ} {ns : List NodeVal} {n h was now : ℕ} → h ≡ header w heightWord → Arena w hd ns → Lifts ns n (header hd heightWord) was now → Settling w hd ns n h was now
+lift-begin {w} {hd} {ns} {n} {h} {was} {now} e a l = record {
   nodes = ns;
   arena = a;
   same = record { long = refl; bodies = λ q u. refl; frees = λ q u z. refl; roots = λ q u z. refl; links = l .lone .stand .links };
-  lifts = subst (λ (k : ℕ). Lifts ns n k was now) (sym (head-is a heightWord (lit< tt))) l;
+  lifts = subst (λ (k : ℕ). Lifts ns n k was now) (sym (e ∙ head-is a heightWord (lit< tt))) l;
 }
 
 pub settle-lifts : {w hd : List ℕ} {ns : List NodeVal} {n was now : ℕ} → Arena w hd ns → Settles hd ns n → was ≡ wordAt w n totalWord → now ≡ due ns n → Lifts ns n (header hd heightWord) was now

@@ -1,6 +1,5 @@
 // The counts of the pairs below each node: added up from the nodes just below, and set right.
 use node::Ascent;
-use node::HEIGHT;
 use node::INTERNAL;
 use node::NodeNo;
 use node::Place;
@@ -82,7 +81,7 @@ fn lift(a: &mut [u64], n: NodeNo, was: u64, is: u64)
     requires { ⌜ Has (now a) (λ h ns. Lifts ns (n .0) (header h heightWord) was is) ⌝ }
     ensures { λ _. ⌜ ((h : List ℕ) (ns : List NodeVal) → Lifts ns (n .0) (header h heightWord) was is → Arena (now (a .entry)) h ns → Settled (now (a .exit)) h ns) ⌝ }
 {
-    let mut levels = a[HEIGHT] as usize;
+    let mut levels = header::height(a);
     let mut node = n;
     loop {
         change(a, node, was, is);

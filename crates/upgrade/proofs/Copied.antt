@@ -1,4 +1,4 @@
--- The words copied: word by word, node by node; and what they hold.
+-- The words copied, node by node; and what they hold.
 -- Assumes nothing.
 use Prim.Native.Nat.{ℕ, zero, suc, _+_, _*_, _-_, _≤_, _<_}
 use native.Mathlib.Numerals.{add-one}
@@ -12,18 +12,7 @@ use Rattle.model.specs.Layout.{headerSize, nodeSize, totalWord, baseBy, base}
 use Rattle.slices.specs.Words.{splice}
 use Rattle.slices.proofs.Laws.{take-on, lent, lent-out, splice-length}
 use Rattle.upgrade.specs.Copies.{copies}
-use lib.Seq.{take-all, take-suc, drop-cons, set-at, append-snoc, length-take-le}
-
--- ---- a turn of the copy: one more word is the other's
-
-pub turn : (l m : List ℕ) (i : ℕ) → i < length l → i < length m → set (take i m ++ drop i l) i (getD m i 0) ≡ take (i + 1) m ++ drop (i + 1) l
-turn l m i h g =
-    rw (add-one i, drop-cons l i 0 h, take-suc m i 0 g)
-    (set-at (take i m) (getD l i 0) (drop (suc i) l) (getD m i 0) i (length-take-le i m (omega arith)) ∙ sym (append-snoc (take i m) (getD m i 0) (drop (suc i) l)))
-
--- every word is
-pub copied : (l m : List ℕ) (i : ℕ) → length l ≤ i → length m ≤ i → take i m ++ drop i l ≡ m
-copied l m i h g = rw (take-all i m g, drop-of-length-le l {i = i} h) (append-nil m)
+use lib.Seq.{take-all, drop-cons, set-at, length-take-le}
 
 -- ---- a node: its words and a count of 0
 

@@ -18,6 +18,7 @@ use Rattle.model.proofs.Arena.{arena-node}
 use Rattle.model.proofs.Decode.{stateOfBy}
 use Rattle.model.proofs.Held.{Written, sound-laid, held-by}
 use Rattle.model.proofs.Forward.{forward}
+use Rattle.model.proofs.Upgrades.{words-shared}
 use Rattle.store.specs.Links.{Body, bodyOf, linkOf}
 use Rattle.standing.specs.Kept.{Child, Links}
 use Rattle.standing.specs.Standing.{Stands, Closed}
@@ -32,20 +33,8 @@ use Rattle.upgrade.proofs.Copied.{take-whole}
 -- ---- the nodes with no counts
 
 words-bare : (x : NodeVal) → nodeWords (withTotal x 0) ≡ nodeWordsBy Format1 x ++ (0 ∷ [])
-unfolding nodeWordsBy frame
-words-bare x =
-    ap (λ l. x .state ∷ length (x .pairs) ∷ x .parent ∷ x .place ∷ l)
-    (sym (append-assoc ks (vs ++ (es ++ [])) (0 ∷ [])
-    ∙ ap (λ l. ks ++ l) (append-assoc vs (es ++ []) (0 ∷ []) ∙ ap (λ l. vs ++ l) (ap (λ l. l ++ (0 ∷ [])) (append-nil es)))))
-  where
-    ks : List ℕ
-    ks = pad most (map keyOf (x .pairs))
-
-    vs : List ℕ
-    vs = pad most (map valOf (x .pairs))
-
-    es : List ℕ
-    es = pad (most + 1) (x .edges)
+unfolding nodeWordsBy
+words-bare x = words-shared (withTotal x 0)
 
 nth-bare : (ns : List NodeVal) (q : ℕ) → nth (bare ns) q ≡ withTotal (nth ns q) 0
 nth-bare [] q = refl

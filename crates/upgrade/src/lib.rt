@@ -1,17 +1,15 @@
 // The upgrade: the words of a format 1 arena into a slice of format 2, the same nodes at the same numbers, and the counts below each node.
 use checker::well_formed_by;
 use counting::count_node;
+use header::FORMAT;
 use model::Answer;
 use model::Layout;
-use node::COUNT;
-use node::FORMAT;
 use node::HEADER;
-use node::HEIGHT;
 use node::NodeNo;
-use node::ROOT;
 use node::TOTAL;
 use node::WORDS;
 use node::node_base;
+use slices::copy_from_slice;
 ghost use mathlib.Core.Path.{_≡_};
 ghost use mathlib.Core.List.{[], _∷_, _++_};
 ghost use lib.ListN.{length, take, set};
@@ -21,25 +19,12 @@ ghost use Rattle.model.specs.Public.{Promised};
 ghost use Rattle.model.specs.Public as promise;
 ghost use Rattle.upgrade.specs.Copies.{copies};
 
-// Copies every word of as long a slice.
-fn copy_words(to: &mut [u64], from: &[u64])
-    requires { ⌜ length (now from) ≡ length (now to) ⌝ }
-    ensures { λ _. ⌜ now (to .exit) ≡ now (from .entry) ⌝ }
-{
-    let mut i = 0;
-    while i < to.len() {
-        let t = from[i];
-        to[i] = t;
-        i += 1;
-    }
-}
-
 // The header's words, with the number of format 2.
 fn copy_header(to: &mut [u64], from: &[u64])
     requires { ⌜ (length (now from) ≡ headerSize) × (length (now to) ≡ headerSize) ⌝ }
     ensures { λ _. ⌜ now (to .exit) ≡ set (now (from .entry)) formatWord formatNumber ⌝ }
 {
-    copy_words(to, from);
+    copy_from_slice(to, from);
     to[FORMAT] = 2;
 }
 
@@ -49,7 +34,7 @@ fn copy_node(to: &mut [u64], from: &[u64])
     ensures { λ _. ⌜ now (to .exit) ≡ now (from .entry) ++ (0 ∷ []) ⌝ }
 {
     let e = TOTAL;
-    copy_words(&mut to[0..e], from);
+    copy_from_slice(&mut to[0..e], from);
     to[TOTAL] = 0;
 }
 
@@ -86,12 +71,12 @@ pub fn upgrade(source: &[u64], target: &mut [u64]) -> Answer
     if !well_formed_by(Layout::Format1, source) {
         return Answer::BadArena;
     }
-    let count = source[COUNT] as usize;
+    let count = header::count(source);
     if target.len() != node_base(NodeNo(count)) {
         return Answer::BadSize;
     }
     copy_all(target, source, count);
-    let root = NodeNo(source[ROOT] as usize);
-    count_node(target, root, source[HEIGHT] as usize);
+    let root = header::root(source);
+    count_node(target, root, header::height(source));
     Answer::Done
 }

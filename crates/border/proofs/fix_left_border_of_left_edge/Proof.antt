@@ -19,17 +19,17 @@ Inv-loop a₀ node₀ height₀ a node height = (length a ≡ length a₀) × ((
 abbrev μ-loop : tie.MeasureT-loop
 μ-loop a₀ node₀ height₀ a node height = height
 
-slice-read-t5 : tie.Need-slice-read-t5 Inv-loop μ-loop
-slice-read-t5 c = omega (arith, rooted-long (c .before .before .pre .topped .rooted))
+root-requires : tie.Need-root-requires Inv-loop μ-loop
+root-requires c κs = omega (arith, rooted-long (c .before .before .pre .topped .rooted))
 
-slice-read-height : tie.Need-slice-read-height Inv-loop μ-loop
-slice-read-height c = omega (arith, rooted-long (c .before .before .before .pre .topped .rooted))
+height-requires : tie.Need-height-requires Inv-loop μ-loop
+height-requires c κs = omega (arith, rooted-long (c .before .before .before .before .pre .topped .rooted))
 
 loop-holds : tie.Need-loop-holds Inv-loop μ-loop
-loop-holds c = (refl, λ g t x. down-starts left x)
+loop-holds c = (refl, λ g t x. rw (c .before .before .root .ensures, c .height .ensures) (down-starts left x))
 
 fix-left-child-requires : tie.Need-fix-left-child-requires Inv-loop μ-loop
-fix-left-child-requires c κs = let p = c .before .before .before .before .before .before .pre in descends left _ (c .before .loop-test .taken) (c .before .before .loop .inv .1 _ _ (p .topped))
+fix-left-child-requires c κs = let p = c .before .before .before .before .before .before .before .before .pre in descends left _ (c .before .loop-test .taken) (c .before .before .loop .inv .1 _ _ (p .topped))
 
 sub-height : tie.Need-sub-height Inv-loop μ-loop
 sub-height c = omega (arith, c .before .before .before .before .loop-test .taken)
@@ -52,8 +52,8 @@ fix-left-border-of-left-edge-spec =
     (tie.spec
     Inv-loop
     μ-loop
-    slice-read-t5
-    slice-read-height
+    root-requires
+    height-requires
     loop-holds
     fix-left-child-requires
     sub-height

@@ -11,26 +11,26 @@ returns c = search needs
 returns-2 : tie.Need-returns-2
 returns-2 c = search needs
 
-shared-slice-read-chain : tie.Need-shared-slice-read-chain
-shared-slice-read-chain c = search needs
+free-nodes-requires : tie.Need-free-nodes-requires
+free-nodes-requires c κs = search needs
 
-shared-slice-read-chain-2 : tie.Need-shared-slice-read-chain-2
-shared-slice-read-chain-2 c = search needs
+count-requires : tie.Need-count-requires
+count-requires c κs = search needs
 
-shared-slice-read-chain-3 : tie.Need-shared-slice-read-chain-3
-shared-slice-read-chain-3 c = search needs
+first-free-requires : tie.Need-first-free-requires
+first-free-requires c κs = search needs
 
 chain-requires : tie.Need-chain-requires
-chain-requires c κs = search needs
+chain-requires c κs = rw (c .before .count .ensures) (c .before .before .before .before .before .before .before .before .pre .sized)
 
 returns-3 : tie.Need-returns-3
-returns-3 c = λ f. refuted (c .before .chain .result) (c .before .chain .ensures) (c .if3 .taken) (f .free)
+returns-3 c = λ f. refuted (c .before .chain .result) (c .before .chain .ensures) (c .if3 .taken) (rw (c .before .before .before .count .ensures, c .before .before .before .before .free-nodes .ensures, c .before .before .first-free .ensures) (f .free))
 
-shared-slice-read-marked : tie.Need-shared-slice-read-marked
-shared-slice-read-marked c = search needs
+seen-requires : tie.Need-seen-requires
+seen-requires c κs = search needs
 
-shared-slice-read-marked-2 : tie.Need-shared-slice-read-marked-2
-shared-slice-read-marked-2 c = search needs
+mark-requires : tie.Need-mark-requires
+mark-requires c κs = search needs
 
 marked-requires : tie.Need-marked-requires
 marked-requires c κs = search needs
@@ -42,10 +42,10 @@ returns-4 c =
     (λ m. record {
       nodes = search needs;
       pairs = search needs;
-      free = decided (h .result) (h .ensures) (c .before .before .before .if3 .left);
-      marked = m;
+      free = rw (c .before .before .before .before .before .before .count .ensures, c .before .before .before .before .before .before .before .free-nodes .ensures, c .before .before .before .before .before .first-free .ensures) at (decided (h .result) (h .ensures) (c .before .before .before .if3 .left));
+      marked = rw (c .before .before .seen .ensures, c .before .mark .ensures) at m;
     })
-    (λ f. f .marked) (c .marked .ensures)
+    (λ f. rw (c .before .before .seen .ensures, c .before .mark .ensures) (f .marked)) (c .marked .ensures)
 
 pub finished-spec : {M : Type 1} → statement M
 finished-spec =
@@ -53,12 +53,12 @@ finished-spec =
     (tie.spec
     returns
     returns-2
-    shared-slice-read-chain
-    shared-slice-read-chain-2
-    shared-slice-read-chain-3
+    free-nodes-requires
+    count-requires
+    first-free-requires
     chain-requires
     returns-3
-    shared-slice-read-marked
-    shared-slice-read-marked-2
+    seen-requires
+    mark-requires
     marked-requires
     returns-4)

@@ -1,95 +1,86 @@
 -- `checker::heading` meets its contract.
 -- Assumes nothing.
+use native.Mathlib.Omega.{arith}
+use mathlib.Core.Path.{sym, ap, _∙_}
+use Rattle.model.specs.Layout.{baseBy}
 use Rattle.formats.proofs.Bases.{base-small}
 use borrow.Author.Needs.{needs}
 use Rattle.checker.proofs.heading.Statement.{statement}
 use Rattle.checker.proofs.heading.Tie as tie
-use Rattle.checker.proofs.heading.Reads as reads
-use Rattle.checker.proofs.heading.Lts as lts
-use Rattle.formats.proofs.base_of.Reads as base-of-reads
-use Rattle.formats.proofs.number.Reads as number-reads
 
--- src/lib.rt:216:9
 returns : tie.Need-returns
 returns c = search needs
 
--- src/lib.rt:218:8
-shared-slice-read-if2 : tie.Need-shared-slice-read-if2
-shared-slice-read-if2 c = search needs
+format-requires : tie.Need-format-requires
+format-requires c κs = search needs
 
--- src/lib.rt:218:21
 number-requires : tie.Need-number-requires
 number-requires c κs = search needs
 
--- src/lib.rt:219:9
 returns-2 : tie.Need-returns-2
-returns-2 c = search needs
+returns-2 c = λ f. c .if2 .taken (c .before .before .format .ensures ∙ (f .format ∙ sym (c .before .number .ensures)))
 
--- src/lib.rt:221:17
-shared-slice-read-count : tie.Need-shared-slice-read-count
-shared-slice-read-count c = search needs
+count-requires : tie.Need-count-requires
+count-requires c κs = search needs
 
--- src/lib.rt:223:9
 returns-3 : tie.Need-returns-3
-returns-3 c = search needs
+returns-3 c = λ f. omega (arith, c .if3 .taken, c .before .count .ensures, f .sized .some)
 
--- src/lib.rt:226:9
 returns-4 : tie.Need-returns-4
-returns-4 c = search needs
+returns-4 c = λ f. omega (arith, c .if4 .taken, c .before .before .count .ensures, f .sized .few)
 
--- src/lib.rt:228:19
 base-of-requires : tie.Need-base-of-requires
 base-of-requires c κs = search (needs, base-small)
 
--- src/lib.rt:229:9
 returns-5 : tie.Need-returns-5
-returns-5 c = search needs
+returns-5 c = λ f. c .if5 .taken (f .sized .long-is ∙ (ap (baseBy (c .before .before .before .before .before .before .before .before .before .before .args .f)) (sym (c .before .before .before .before .count .ensures)) ∙ sym (c .before .base-of .ensures)))
 
--- src/lib.rt:231:8
-shared-slice-read-if6 : tie.Need-shared-slice-read-if6
-shared-slice-read-if6 c = search needs
+offset-requires : tie.Need-offset-requires
+offset-requires c κs = search needs
 
--- src/lib.rt:232:9
 returns-6 : tie.Need-returns-6
-returns-6 c = search needs
+returns-6 c = λ f. c .if6 .taken (c .before .offset .ensures ∙ f .offset)
 
--- src/lib.rt:234:8
-shared-slice-read-if7 : tie.Need-shared-slice-read-if7
-shared-slice-read-if7 c = search needs
+height-requires : tie.Need-height-requires
+height-requires c κs = search needs
 
--- src/lib.rt:235:9
 returns-7 : tie.Need-returns-7
-returns-7 c = search needs
+returns-7 c = λ f. omega (arith, c .if7 .taken, c .before .height .ensures, f .low)
 
--- src/lib.rt:237:8
-shared-slice-read-if8 : tie.Need-shared-slice-read-if8
-shared-slice-read-if8 c = search needs
+free-nodes-requires : tie.Need-free-nodes-requires
+free-nodes-requires c κs = search needs
 
--- src/lib.rt:238:9
 returns-8 : tie.Need-returns-8
-returns-8 c = search needs
+returns-8 c = λ f. omega (arith, c .if8 .taken, c .before .free-nodes .ensures, c .before .before .before .before .before .before .before .before .before .before .count .ensures, f .few-free)
 
--- src/lib.rt:212:1
 returns-9 : tie.Need-returns-9
-returns-9 c = search needs
+returns-9 c =
+    let e = c .before .before .before .before .before .before .before .before .before .before .count .ensures in
+    record {
+      format = sym (c .before .before .before .before .before .before .before .before .before .before .before .before .before .format .ensures) ∙ (c .before .before .before .before .before .before .before .before .before .before .before .if2 .left ∙ c .before .before .before .before .before .before .before .before .before .before .before .before .number .ensures);
+      sized = record { some = omega (arith, c .before .before .before .before .before .before .before .before .before .if3 .left, e); few = omega (arith, c .before .before .before .before .before .before .before .before .if4 .left, e); long-is = c .before .before .before .before .before .before .if5 .left ∙ (c .before .before .before .before .before .before .before .base-of .ensures ∙ ap (baseBy (c .before .before .before .before .before .before .before .before .before .before .before .before .before .before .before .before .args .f)) e) };
+      offset = sym (c .before .before .before .before .before .offset .ensures) ∙ c .before .before .before .before .if6 .left;
+      low = omega (arith, c .before .before .if7 .left, c .before .before .before .height .ensures);
+      few-free = omega (arith, c .if8 .left, c .before .free-nodes .ensures, e);
+    }
 
 pub heading-spec : {M : Type 1} → statement M
 heading-spec =
     tie.close
     (tie.spec
     returns
-    shared-slice-read-if2
+    format-requires
     number-requires
     returns-2
-    shared-slice-read-count
+    count-requires
     returns-3
     returns-4
     base-of-requires
     returns-5
-    shared-slice-read-if6
+    offset-requires
     returns-6
-    shared-slice-read-if7
+    height-requires
     returns-7
-    shared-slice-read-if8
+    free-nodes-requires
     returns-8
     returns-9)

@@ -1,59 +1,47 @@
 -- `checker::walk_tree` meets its contract.
 -- Assumes nothing.
+use native.Mathlib.Omega.{arith}
 use borrow.Author.Needs.{needs}
 use Rattle.checker.proofs.walk_tree.Statement.{statement}
 use Rattle.checker.proofs.walk_tree.Tie as tie
-use Rattle.checker.proofs.walk_tree.Reads as reads
-use Rattle.checker.proofs.walk_tree.Lts as lts
-use Rattle.checker.proofs.check_node.Reads as check-node-reads
-use Rattle.checker.proofs.root_fewest.Reads as root-fewest-reads
 
--- src/lib.rt:266:17
-shared-slice-read-count : tie.Need-shared-slice-read-count
-shared-slice-read-count c = search needs
+count-requires : tie.Need-count-requires
+count-requires c κs = search needs
 
--- src/lib.rt:267:18
-shared-slice-read-height : tie.Need-shared-slice-read-height
-shared-slice-read-height c = search needs
+height-requires : tie.Need-height-requires
+height-requires c κs = search needs
 
--- src/lib.rt:270:17
 root-fewest-requires : tie.Need-root-fewest-requires
 root-fewest-requires c κs = search needs
 
--- src/lib.rt:271:22
-shared-slice-read-t8 : tie.Need-shared-slice-read-t8
-shared-slice-read-t8 c = search needs
+root-requires : tie.Need-root-requires
+root-requires c κs = search needs
 
--- src/lib.rt:276:24
-shared-slice-read-t8-2 : tie.Need-shared-slice-read-t8-2
-shared-slice-read-t8-2 c = search needs
+free-nodes-requires : tie.Need-free-nodes-requires
+free-nodes-requires c κs = search needs
 
--- src/lib.rt:276:16
-sub-t12 : tie.Need-sub-t12
-sub-t12 c = search needs
+sub-t10 : tie.Need-sub-t10
+sub-t10 c = omega (arith, c .before .before .before .before .before .before .pre .few-free, c .before .before .before .before .count .ensures, c .free-nodes .ensures)
 
--- src/lib.rt:277:16
-shared-slice-read-t17 : tie.Need-shared-slice-read-t17
-shared-slice-read-t17 c = search needs
+pairs-requires : tie.Need-pairs-requires
+pairs-requires c κs = search needs
 
--- src/lib.rt:280:5
 check-node-requires : tie.Need-check-node-requires
-check-node-requires c κs = search needs
+check-node-requires c κs = rw (c .before .before .before .before .before .count .ensures) (c .before .before .before .before .before .before .before .pre .sized)
 
--- src/lib.rt:262:1
 returns : tie.Need-returns
-returns c = rw (c .before .before .before .before .root-fewest .ensures) at (c .check-node .ensures)
+returns c = rw (c .before .before .before .before .root-fewest .ensures, c .before .before .before .before .before .before .count .ensures, c .before .before .before .before .before .height .ensures, c .before .before .before .root .ensures, c .before .before .free-nodes .ensures, c .before .pairs .ensures) at (c .check-node .ensures)
 
 pub walk-tree-spec : {M : Type 1} → statement M
 walk-tree-spec =
     tie.close
     (tie.spec
-    shared-slice-read-count
-    shared-slice-read-height
+    count-requires
+    height-requires
     root-fewest-requires
-    shared-slice-read-t8
-    shared-slice-read-t8-2
-    sub-t12
-    shared-slice-read-t17
+    root-requires
+    free-nodes-requires
+    sub-t10
+    pairs-requires
     check-node-requires
     returns)

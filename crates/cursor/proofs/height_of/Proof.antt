@@ -8,7 +8,7 @@ use Rattle.model.specs.State.{State, At}
 use Rattle.model.specs.Promise.{Holds}
 use Rattle.model.proofs.Bounds.{low}
 use Rattle.model.proofs.Backward.{backward}
-use Rattle.navigate.proofs.Steps.{header-in}
+use Rattle.header.proofs.Headed.{held}
 use Rattle.cursor.proofs.Moves.{Sunk, sunk-within, sunk-leaf, sunk-on, sunk-high}
 use Rattle.cursor.proofs.height_of.Statement.{statement}
 use Rattle.cursor.proofs.height_of.Tie as tie
@@ -20,7 +20,7 @@ abbrev μ-loop : tie.MeasureT-loop
 μ-loop a top below₀ height₀ below height = top - height
 
 shared-slice-read-top : tie.Need-shared-slice-read-top Inv-loop μ-loop
-shared-slice-read-top c = header-in (c .before .before .pre .holds) 4 (omega arith)
+shared-slice-read-top c = omega (arith, held (c .before .before .pre .holds))
 
 loop-holds : tie.Need-loop-holds Inv-loop μ-loop
 loop-holds c = λ s o h p. record { left = h; place = p; sum = omega arith }

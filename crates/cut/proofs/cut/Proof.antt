@@ -8,7 +8,7 @@ use Rattle.model.specs.Layout.{Sized, pairsWord}
 use Rattle.model.specs.Room.{nodesFor}
 use Rattle.model.specs.WellFormed.{WellFormed}
 use Rattle.model.proofs.Forward.{forward}
-use Rattle.format.proofs.Formatted.{sized, unsized}
+use Rattle.header.proofs.Headed.{sized, unsized}
 use Rattle.inspect.proofs.Decisions.{decided, refuted}
 use Rattle.cut.proofs.Ends.{rank-few, part-pairs, bad-size, bad-arena, no-nodes, upper, cut-done}
 use borrow.Author.Needs.{needs}

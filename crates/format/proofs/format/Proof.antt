@@ -1,6 +1,7 @@
 -- `format::format` meets its contract.
 -- Assumes nothing.
-use Rattle.format.proofs.Formatted.{sized, refused, done}
+use Rattle.header.proofs.Headed.{sized}
+use Rattle.format.proofs.Formatted.{refused, done}
 use borrow.Author.Needs.{needs}
 use Rattle.format.proofs.format.Statement.{statement}
 use Rattle.format.proofs.format.Tie as tie

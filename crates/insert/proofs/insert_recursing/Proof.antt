@@ -3,14 +3,13 @@
 use mathlib.Core.Path.{_≡_, refl, sym, _∙_, subst}
 use Prim.Native.Nat.{_≤_}
 use native.Mathlib.Omega.{arith}
-use lib.ListN.{length, getD}
-use Rattle.model.specs.Layout.{heightWord}
+use lib.ListN.{length}
 use Rattle.model.specs.Nodes.{Grown}
 use Rattle.model.specs.Insert.{rise}
 use Rattle.model.specs.State.{State}
 use Rattle.model.specs.Promise.{Holds}
 use Rattle.node.specs.Reading.{pairOf}
-use Rattle.navigate.proofs.Steps.{header-in}
+use Rattle.header.proofs.Headed.{held}
 use Rattle.standing.specs.Heads.{Rest, restOf}
 use Rattle.growing.specs.Climbs.{Climbing}
 use Rattle.growing.proofs.Climbs.{begin, climb-within, Above, above}
@@ -28,22 +27,22 @@ abbrev μ-loop : tie.MeasureT-loop
 μ-loop a₀ levels₀ node₀ inserted₀ a levels node inserted = levels
 
 -- where the climb is going: after the leaf, and at the loop's test
-begun : (c : tie.After-insert-leaf Inv-loop μ-loop) → let x = c .before .before .before .before .before .before .args in (s : State) → Holds (x .a .now) s → (y : Roomy s (x .edge))
-    → Upward (c .insert-leaf .last .0) (restOf s) (x .edge .node .0) (getD (x .a .now) heightWord 0) (c .insert-leaf .result) (rise (y .edge .way) tt (pairOf (x .kv)) tt (s .free))
+begun : (c : tie.After-insert-leaf Inv-loop μ-loop) → let x = c .before .before .before .before .before .before .before .args in (s : State) → Holds (x .a .now) s → (y : Roomy s (x .edge))
+    → Upward (c .insert-leaf .last .0) (restOf s) (x .edge .node .0) (c .before .before .before .before .height .result) (c .insert-leaf .result) (rise (y .edge .way) tt (pairOf (x .kv)) tt (s .free))
 begun c s o y =
-    let x = c .before .before .before .before .before .before .args in
+    let x = c .before .before .before .before .before .before .before .args in
     let b = begin o (x .edge) (y .edge) (y .room) (pairOf (x .kv)) in
-    upward b (c .insert-leaf .last .0) (c .insert-leaf .result) (c .insert-leaf .ensures (b .gap))
+    rw (c .before .before .before .before .height .ensures) (upward b (c .insert-leaf .last .0) (c .insert-leaf .result) (c .insert-leaf .ensures (b .gap)))
 
-here : (c : tie.At-loop Inv-loop μ-loop) → let x = c .before .before .before .before .before .before .before .before .before .args in (s : State) → Holds (x .a .now) s → (y : Roomy s (x .edge))
+here : (c : tie.At-loop Inv-loop μ-loop) → let x = c .before .before .before .before .before .before .before .before .before .before .args in (s : State) → Holds (x .a .now) s → (y : Roomy s (x .edge))
     → Upward (c .loop .a) (restOf s) (c .loop .node .0) (c .loop .levels) (c .loop .inserted) (rise (y .edge .way) tt (pairOf (x .kv)) tt (s .free))
 here c s o y = c .loop .inv .1 _ _ (begun (c .before .before .before) s o y)
 
 -- from the state that the caller knows of
-known : (c : tie.At-loop Inv-loop μ-loop) → let q = c .before .before .before .before .before .before .before .before .before .pre in
-    let x = c .before .before .before .before .before .before .before .before .before .args in
+known : (c : tie.At-loop Inv-loop μ-loop) → let q = c .before .before .before .before .before .before .before .before .before .before .pre in
+    let x = c .before .before .before .before .before .before .before .before .before .before .args in
     Upward (c .loop .a) (restOf (q .state)) (c .loop .node .0) (c .loop .levels) (c .loop .inserted) (rise (q .there .edge .way) tt (pairOf (x .kv)) tt (q .state .free))
-known c = let q = c .before .before .before .before .before .before .before .before .before .pre in here c (q .state) (q .holds) (q .there)
+known c = let q = c .before .before .before .before .before .before .before .before .before .before .pre in here c (q .state) (q .holds) (q .there)
 
 -- a node was split
 rising : (c : tie.After-known-told Inv-loop μ-loop) (g : Rest) (t : Grown) → let l = c .before .before .before .loop in let r = c .before .inserted .given .0 .0 in
@@ -63,13 +62,13 @@ over c g t u = above _ _ _ (rising (c .before .before .before .before .before) g
 some : (c : tie.After-known-told2 Inv-loop μ-loop) → 1 ≤ c .before .before .before .before .before .before .before .before .loop .levels
 some c = over c _ _ (known (c .before .before .before .before .before .before .before .before)) .some
 
-slice-read-levels : tie.Need-slice-read-levels Inv-loop μ-loop
-slice-read-levels c = header-in (c .before .before .pre .holds) heightWord (omega arith)
+height-requires : tie.Need-height-requires Inv-loop μ-loop
+height-requires c κs = held (c .before .before .pre .holds)
 
 insert-leaf-requires : tie.Need-insert-leaf-requires Inv-loop μ-loop
 insert-leaf-requires c κs =
-    let q = c .before .before .before .before .before .pre in
-    let x = c .before .before .before .before .before .args in
+    let q = c .before .before .before .before .before .before .pre in
+    let x = c .before .before .before .before .before .before .args in
     begin (q .holds) (x .edge) (q .there .edge) (q .there .room) (pairOf (x .kv)) .gap
 
 loop-holds : tie.Need-loop-holds Inv-loop μ-loop
@@ -88,7 +87,7 @@ returns : tie.Need-returns Inv-loop μ-loop
 returns c =
     λ s o y.
     let l = c .before .before .loop in
-    subst (λ (i : Inserted). Upward (l .a) (restOf s) (l .node .0) (l .levels) i (rise (y .edge .way) tt (pairOf (c .before .before .before .before .before .before .before .before .before .before .before .args .kv)) tt (s .free))) (c .enum-told .given .1) (here (c .before .before) s o y)
+    subst (λ (i : Inserted). Upward (l .a) (restOf s) (l .node .0) (l .levels) i (rise (y .edge .way) tt (pairOf (c .before .before .before .before .before .before .before .before .before .before .before .before .args .kv)) tt (s .free))) (c .enum-told .given .1) (here (c .before .before) s o y)
 
 ascend-requires : tie.Need-ascend-requires Inv-loop μ-loop
 ascend-requires c κs = climb-within (rising (c .before) _ _ (known (c .before .before .before .before)))
@@ -133,7 +132,7 @@ insert-recursing-spec =
     (tie.spec
     Inv-loop
     μ-loop
-    slice-read-levels
+    height-requires
     insert-leaf-requires
     loop-holds
     enum-known-inserted

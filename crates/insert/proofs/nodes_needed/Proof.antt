@@ -7,7 +7,7 @@ use Rattle.model.specs.Layout.{header, heightWord}
 use Rattle.model.specs.Insert.{needed}
 use Rattle.model.specs.State.{State}
 use Rattle.model.specs.Promise.{Holds}
-use Rattle.navigate.proofs.Steps.{header-in}
+use Rattle.header.proofs.Headed.{held}
 use borrow.Author.Needs.{needs}
 use Rattle.insert.proofs.Needed.{Counting, count-start, count-within, count-low, count-few, count-ended, count-root, count-on}
 use Rattle.insert.proofs.nodes_needed.Statement.{statement}
@@ -23,8 +23,8 @@ abbrev μ-loop : tie.MeasureT-loop
 known : (c : tie.At-loop Inv-loop μ-loop) → Counting (needed (c .before .before .before .before .pre .there .way)) (c .before .before .before .before .pre .state) (c .loop .node .0) (c .loop .count)
 known c = let q = c .before .before .before .before .pre in c .loop .inv _ (q .state) (q .holds) (count-start (q .holds) (c .before .before .before .before .args .edge) (q .there))
 
-shared-slice-read-top : tie.Need-shared-slice-read-top Inv-loop μ-loop
-shared-slice-read-top c = header-in (c .before .before .pre .holds) heightWord (omega arith)
+height-requires : tie.Need-height-requires Inv-loop μ-loop
+height-requires c κs = held (c .before .pre .holds)
 
 loop-holds : tie.Need-loop-holds Inv-loop μ-loop
 loop-holds c = λ total s o k. k
@@ -67,7 +67,7 @@ add-count : tie.Need-add-count Inv-loop μ-loop
 add-count c = omega (arith, count-few (c .before .before .before .before .before .before .before .before .before .before .pre .holds) _ _ _ (known (c .before .before .before .before .before .before)))
 
 loop-less : tie.Need-loop-less Inv-loop μ-loop
-loop-less c = omega (arith, low c)
+loop-less c = omega (arith, low c, c .before .before .before .before .before .before .before .before .height .ensures)
 
 loop-again : tie.Need-loop-again Inv-loop μ-loop
 loop-again c = λ total s o k. on c total s o (c .before .before .before .before .before .before .loop .inv total s o k)
@@ -78,7 +78,7 @@ nodes-needed-spec =
     (tie.spec
     Inv-loop
     μ-loop
-    shared-slice-read-top
+    height-requires
     loop-holds
     len-requires
     returns

@@ -11,7 +11,7 @@ use Rattle.model.specs.State.{formatted}
 use Rattle.model.specs.Words.{wordsOf}
 use Rattle.model.specs.Load.{pairsOf}
 use Rattle.model.specs.Room.{nodesFor}
-use Rattle.format.proofs.Formatted.{sized, unsized}
+use Rattle.header.proofs.Headed.{sized, unsized}
 use Rattle.appending.specs.Runs.{Loads}
 use Rattle.inspect.proofs.Decisions.{decided, refuted}
 use Rattle.load.proofs.Ends.{even-of, odd, no-arena, falls, few, loads, done}

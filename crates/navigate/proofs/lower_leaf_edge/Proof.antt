@@ -9,7 +9,8 @@ use Rattle.model.specs.Promise.{Holds}
 use Rattle.model.proofs.Forward.{forward}
 use Rattle.model.proofs.Forks.{starts}
 use Rattle.model.proofs.Standing.{root-at}
-use Rattle.search.proofs.Descents.{header-in, at-within, keys-few, keys-rise, low-few}
+use Rattle.header.proofs.Headed.{headed}
+use Rattle.search.proofs.Descents.{at-within, keys-few, keys-rise, low-few}
 use Rattle.navigate.proofs.Lowers.{Lowering, lowered, lowering-on}
 use Rattle.navigate.proofs.lower_leaf_edge.Statement.{statement}
 use Rattle.navigate.proofs.lower_leaf_edge.Tie as tie
@@ -25,16 +26,16 @@ Inv-loop a node₀ height₀ bound₀ node height bound = (s : State) → Holds 
 abbrev μ-loop : tie.MeasureT-loop
 μ-loop a node₀ height₀ bound₀ node height bound = height
 
-shared-slice-read-t10 : tie.Need-shared-slice-read-t10 Inv-loop μ-loop
-shared-slice-read-t10 c = header-in (c .before .before .pre) 3 (omega arith)
+root-requires : tie.Need-root-requires Inv-loop μ-loop
+root-requires c κs = headed (c .before .pre)
 
-shared-slice-read-height : tie.Need-shared-slice-read-height Inv-loop μ-loop
-shared-slice-read-height c = header-in (c .before .before .before .pre) 4 (omega arith)
+height-requires : tie.Need-height-requires Inv-loop μ-loop
+height-requires c κs = headed (c .before .before .pre)
 
 loop-holds : tie.Need-loop-holds Inv-loop μ-loop
 loop-holds c =
     let x = c .before .before .before .args in
-    λ s o. let r = root-at o (λ h d t. sink (starts (x .start)) (s .whole .height) top (s .whole .root) ≡ sink (starts (x .start)) h d t) refl in record { place = r .0; same = r .1 }
+    λ s o. rw (c .before .root .ensures, c .height .ensures) (let r = root-at o (λ h d t. sink (starts (x .start)) (s .whole .height) top (s .whole .root) ≡ sink (starts (x .start)) h d t) refl in record { place = r .0; same = r .1 })
 
 keys-requires : tie.Need-keys-requires Inv-loop μ-loop
 keys-requires c κs = let x = c .before .before .before .before in let o = forward (x .args .a .now) (x .pre) in at-within o ((c .loop .inv _ o) .place)
@@ -72,8 +73,8 @@ lower-leaf-edge-spec =
     (tie.spec
     Inv-loop
     μ-loop
-    shared-slice-read-t10
-    shared-slice-read-height
+    root-requires
+    height-requires
     loop-holds
     keys-requires
     find-lower-bound-index-requires

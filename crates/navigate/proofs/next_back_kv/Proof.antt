@@ -8,8 +8,9 @@ use Rattle.model.specs.State.{State}
 use Rattle.model.specs.Promise.{Holds}
 use Rattle.model.proofs.Bounds.{low}
 use Rattle.model.proofs.Backward.{backward}
+use Rattle.header.proofs.Headed.{held}
 use Rattle.navigate.specs.Places.{EdgeAt}
-use Rattle.navigate.proofs.Steps.{Climb, climb-at, climb-start, climb-top, climb-root, climb-on, header-in, Backs, back-here, back-above, back-ended}
+use Rattle.navigate.proofs.Steps.{Climb, climb-at, climb-start, climb-top, climb-root, climb-on, Backs, back-here, back-above, back-ended}
 use Rattle.navigate.proofs.next_back_kv.Statement.{statement}
 use Rattle.navigate.proofs.next_back_kv.Tie as tie
 use Rattle.navigate.proofs.next_back_kv.Reads as reads
@@ -22,14 +23,14 @@ Inv-loop a top node₀ height₀ at₀ node height at = (s : State) → Holds a 
 abbrev μ-loop : tie.MeasureT-loop
 μ-loop a top node₀ height₀ at₀ node height at = top - height
 
-shared-slice-read-top : tie.Need-shared-slice-read-top Inv-loop μ-loop
-shared-slice-read-top c = header-in (c .before .before .pre .holds) 4 (omega arith)
+height-requires : tie.Need-height-requires Inv-loop μ-loop
+height-requires c κs = held (c .before .pre .holds)
 
 loop-holds : tie.Need-loop-holds Inv-loop μ-loop
 loop-holds c = let x = c .before .before .before .before .args in λ s o y. climb-start (Backs (backKv (y .way)) (y .way)) (o .sound) (x .from) y refl
 
-sub-t13 : tie.Need-sub-t13 Inv-loop μ-loop
-sub-t13 c = omega (arith, c .if1 .taken)
+sub-t11 : tie.Need-sub-t11 Inv-loop μ-loop
+sub-t11 c = omega (arith, c .if1 .taken)
 
 returns : tie.Need-returns Inv-loop μ-loop
 returns c = λ s o y. back-here (backKv (y .way)) (y .way) o _ _ _ (c .before .loop .inv s o y) (omega (arith, c .if1 .taken))
@@ -64,7 +65,7 @@ add-height : tie.Need-add-height Inv-loop μ-loop
 add-height c = let f = c .before .before .before .before .before .before .before .before .before .before .pre in omega (arith, high c, low (backward _ _ (f .holds)))
 
 loop-less : tie.Need-loop-less Inv-loop μ-loop
-loop-less c = omega (arith, high c)
+loop-less c = omega (arith, high c, c .before .before .before .before .before .before .before .before .height .ensures)
 
 loop-again : tie.Need-loop-again Inv-loop μ-loop
 loop-again c = on c
@@ -75,9 +76,9 @@ next-back-kv-spec =
     (tie.spec
     Inv-loop
     μ-loop
-    shared-slice-read-top
+    height-requires
     loop-holds
-    sub-t13
+    sub-t11
     returns
     ascend-requires
     enum-known-p

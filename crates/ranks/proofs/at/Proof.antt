@@ -6,7 +6,7 @@ use mathlib.Core.Bool.{true, false}
 use Rattle.model.specs.WellFormed.{WellFormed}
 use Rattle.model.proofs.Forward.{forward}
 use Rattle.inspect.proofs.Decisions.{decided, refuted}
-use Rattle.search.proofs.Descents.{header-in}
+use Rattle.header.proofs.Headed.{headed}
 use Rattle.navigate.proofs.Pairs.{kv-within, kv-key, kv-val}
 use Rattle.ranks.proofs.Told.{at-bad, none-told, pair-told}
 use borrow.Author.Needs.{needs}
@@ -23,14 +23,14 @@ well-formed-requires c κs = search needs
 returns : tie.Need-returns
 returns c = at-bad _ (refuted (c .before .well-formed .result) (c .before .well-formed .ensures) (c .if1 .taken))
 
-shared-slice-read-if2 : tie.Need-shared-slice-read-if2
-shared-slice-read-if2 c = header-in (formed (c .before)) 5 (omega arith)
+pairs-requires : tie.Need-pairs-requires
+pairs-requires c κs = headed (formed c)
 
 returns-2 : tie.Need-returns-2
-returns-2 c = none-told (forward _ (formed (c .before .before))) _ (omega (arith, c .if2 .taken))
+returns-2 c = none-told (forward _ (formed (c .before .before))) _ (omega (arith, c .if2 .taken, c .before .pairs .ensures))
 
 pick-requires : tie.Need-pick-requires
-pick-requires c κs = (formed (c .before .before), omega (arith, c .if2 .left))
+pick-requires c κs = (formed (c .before .before), omega (arith, c .if2 .left, c .before .pairs .ensures))
 
 val-requires : tie.Need-val-requires
 val-requires c κs = let o = forward _ (formed (c .before .before .before .before .before)) in kv-within _ ((c .before .before .pick .ensures _ o) .kv) o
@@ -47,7 +47,7 @@ at-spec =
     (tie.spec
     well-formed-requires
     returns
-    shared-slice-read-if2
+    pairs-requires
     returns-2
     pick-requires
     val-requires

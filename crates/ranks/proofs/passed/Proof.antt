@@ -11,7 +11,8 @@ use Rattle.model.specs.Promise.{Holds}
 use Rattle.model.proofs.Forward.{forward}
 use Rattle.model.proofs.Forks.{starts}
 use Rattle.model.proofs.Standing.{root-at}
-use Rattle.search.proofs.Descents.{header-in, at-within, keys-rise}
+use Rattle.header.proofs.Headed.{headed}
+use Rattle.search.proofs.Descents.{at-within, keys-rise}
 use Rattle.ranks.proofs.Lefts.{Sinking, sunk, sinking-on, edge-ready, low-few, sink-few}
 use borrow.Author.Needs.{needs}
 use Rattle.ranks.proofs.passed.Statement.{statement}
@@ -23,16 +24,16 @@ Inv-loop a node₀ height₀ bound₀ sum₀ node height bound sum = (s : State)
 abbrev μ-loop : tie.MeasureT-loop
 μ-loop a node₀ height₀ bound₀ sum₀ node height bound sum = height
 
-shared-slice-read-t11 : tie.Need-shared-slice-read-t11 Inv-loop μ-loop
-shared-slice-read-t11 c = header-in (c .before .before .pre) 3 (omega arith)
+root-requires : tie.Need-root-requires Inv-loop μ-loop
+root-requires c κs = headed (c .before .pre)
 
-shared-slice-read-height : tie.Need-shared-slice-read-height Inv-loop μ-loop
-shared-slice-read-height c = header-in (c .before .before .before .pre) 4 (omega arith)
+height-requires : tie.Need-height-requires Inv-loop μ-loop
+height-requires c κs = headed (c .before .before .pre)
 
 loop-holds : tie.Need-loop-holds Inv-loop μ-loop
 loop-holds c =
     let x = c .before .before .before .args in
-    λ s o. let r = root-at o (λ h d t. (sink (starts (x .start)) (s .whole .height) top (s .whole .root) ≡ sink (starts (x .start)) h d t) × (0 ≡ length (before d))) (refl, refl) in record { place = r .0; same = r .1 .0; sum-is = r .1 .1 }
+    λ s o. rw (c .before .root .ensures, c .height .ensures) (let r = root-at o (λ h d t. (sink (starts (x .start)) (s .whole .height) top (s .whole .root) ≡ sink (starts (x .start)) h d t) × (0 ≡ length (before d))) (refl, refl) in record { place = r .0; same = r .1 .0; sum-is = r .1 .1 })
 
 keys-requires : tie.Need-keys-requires Inv-loop μ-loop
 keys-requires c κs = let x = c .before .before .before .before in let o = forward (x .args .a .now) (x .pre) in at-within o ((c .loop .inv _ o) .place)
@@ -100,8 +101,8 @@ passed-spec =
     (tie.spec
     Inv-loop
     μ-loop
-    shared-slice-read-t11
-    shared-slice-read-height
+    root-requires
+    height-requires
     loop-holds
     keys-requires
     find-lower-bound-index-requires

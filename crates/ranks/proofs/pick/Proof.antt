@@ -13,7 +13,7 @@ use Rattle.model.specs.Promise.{Holds}
 use Rattle.model.proofs.Backward.{header-is}
 use Rattle.model.proofs.Forward.{forward}
 use Rattle.model.proofs.Standing.{root-at}
-use Rattle.search.proofs.Descents.{header-in}
+use Rattle.header.proofs.Headed.{headed}
 use Rattle.ranks.proofs.Lefts.{Seeking, picked-leaf, node-ready, picked-inner, inner-edge, seeking-down}
 use borrow.Author.Needs.{needs}
 use Rattle.ranks.proofs.pick.Statement.{statement}
@@ -25,16 +25,16 @@ Inv-loop a rank node₀ height₀ rest₀ node height rest = (s : State) → Hol
 abbrev μ-loop : tie.MeasureT-loop
 μ-loop a rank node₀ height₀ rest₀ node height rest = height
 
-shared-slice-read-t9 : tie.Need-shared-slice-read-t9 Inv-loop μ-loop
-shared-slice-read-t9 c = header-in (c .before .before .pre .0) 3 (omega arith)
+root-requires : tie.Need-root-requires Inv-loop μ-loop
+root-requires c κs = headed (c .before .pre .0)
 
-shared-slice-read-height : tie.Need-shared-slice-read-height Inv-loop μ-loop
-shared-slice-read-height c = header-in (c .before .before .before .pre .0) 4 (omega arith)
+height-requires : tie.Need-height-requires Inv-loop μ-loop
+height-requires c κs = headed (c .before .before .pre .0)
 
 loop-holds : tie.Need-loop-holds Inv-loop μ-loop
 loop-holds c =
     let x = c .before .before .before in
-    λ s o. let r = root-at o (λ h d t. (nth (x .args .rank) (list s) ≡ nth (x .args .rank) (flat h t)) × (x .args .rank < length (flat h t))) (refl, omega (arith, x .pre .1, header-is o pairsWord (lit< tt))) in record { place = r .0; same = r .1 .0; more = r .1 .1 }
+    λ s o. rw (c .before .root .ensures, c .height .ensures) (let r = root-at o (λ h d t. (nth (x .args .rank) (list s) ≡ nth (x .args .rank) (flat h t)) × (x .args .rank < length (flat h t))) (refl, omega (arith, x .pre .1, header-is o pairsWord (lit< tt))) in record { place = r .0; same = r .1 .0; more = r .1 .1 })
 
 returns : tie.Need-returns Inv-loop μ-loop
 returns c = λ s o. picked-leaf _ (c .if1 .taken) (c .before .loop .inv s o)
@@ -70,8 +70,8 @@ pick-spec =
     (tie.spec
     Inv-loop
     μ-loop
-    shared-slice-read-t9
-    shared-slice-read-height
+    root-requires
+    height-requires
     loop-holds
     returns
     pass-edges-requires

@@ -1,11 +1,12 @@
 -- `restore::restore` meets its contract.
 -- Assumes nothing.
-use mathlib.Core.Path.{_≡_}
+use mathlib.Core.Path.{_≡_, sym, _∙_}
 use native.Mathlib.Omega.{arith}
 use lib.ListN.{length}
 use Rattle.model.specs.WellFormed.{WellFormed}
 use Rattle.inspect.proofs.Decisions.{decided, refuted, held, failed}
-use Rattle.restore.proofs.Restored.{headed, wrong-size, bad-words, bad-image, not-meant, done}
+use Rattle.header.proofs.Headed.{headed}
+use Rattle.restore.proofs.Restored.{wrong-size, bad-words, bad-image, not-meant, done}
 use borrow.Author.Needs.{needs}
 use Rattle.restore.proofs.restore.Statement.{statement}
 use Rattle.restore.proofs.restore.Tie as tie
@@ -68,30 +69,25 @@ returns-4 c =
     let x = e .before .before .before .before .before .before .args in
     not-meant (x .older) (x .a .now) (x .image .now) (as-long (e .before .before .before)) (formed e) (image-formed g) (held (c .before .too-old .result) (c .before .too-old .ensures) (c .if4 .taken))
 
-slice-read-seen : tie.Need-slice-read-seen
-slice-read-seen c = omega (arith, headed (formed (passed (checked (c .before)))))
+raise-to-requires : tie.Need-raise-to-requires
+raise-to-requires c κs = (formed (passed (checked (c .before))), image-formed (checked (c .before)))
 
-slice-read-mark : tie.Need-slice-read-mark
-slice-read-mark c = omega (arith, headed (formed (passed (checked (c .before .before)))))
-
-copy-over-requires : tie.Need-copy-over-requires
-copy-over-requires c κs = search needs
-
-keep-mark-requires : tie.Need-keep-mark-requires
-keep-mark-requires c κs =
-    let e = passed (checked (c .before .before .before .before .before .before .before)) in
-    rw (c .before .before .before .copy-over .ensures) (omega (arith, headed (formed e), as-long (e .before .before .before)))
+copy-but-mark-requires : tie.Need-copy-but-mark-requires
+copy-but-mark-requires c κs =
+    let g = passed (checked (c .before .before .before .before .before)) in
+    let k = c .before .before .before .raise-to .kept .0 in
+    (omega (arith, headed (formed g), k), as-long (g .before .before .before) ∙ sym k)
 
 same-length-4 : tie.Need-same-length-4
 same-length-4 c = search needs
 
 returns-5 : tie.Need-returns-5
 returns-5 c =
-    let t = c .before .before .before .before .before .before .before .before .before .before in
+    let t = c .before .before .before .before .before .before .before .before in
     let g = checked t in
     let e = passed g in
     let x = e .before .before .before .before .before .before .args in
-    done (x .older) (x .a .now) (x .image .now) (as-long (e .before .before .before)) (formed e) (image-formed g) (failed (t .before .too-old .result) (t .before .too-old .ensures) (t .if4 .left)) _ _ (c .before .before .before .before .before .before .copy-over .ensures) (c .before .before .keep-mark .ensures)
+    done (x .older) (x .a .now) (x .image .now) (as-long (e .before .before .before)) (formed e) (image-formed g) (failed (t .before .too-old .result) (t .before .too-old .ensures) (t .if4 .left)) _ _ (c .before .before .before .before .before .before .raise-to .ensures) (c .before .before .copy-but-mark .ensures)
 
 pub restore-spec : {M : Type 1} → statement M
 restore-spec =
@@ -107,9 +103,7 @@ restore-spec =
     too-old-requires
     same-length-3
     returns-4
-    slice-read-seen
-    slice-read-mark
-    copy-over-requires
-    keep-mark-requires
+    raise-to-requires
+    copy-but-mark-requires
     same-length-4
     returns-5)

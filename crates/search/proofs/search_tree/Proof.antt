@@ -12,10 +12,11 @@ use Rattle.model.specs.State.{State}
 use Rattle.model.specs.Promise.{Holds}
 use Rattle.model.proofs.Forward.{forward}
 use Rattle.model.proofs.Standing.{root-at}
+use Rattle.header.proofs.Headed.{headed}
 use Rattle.model.specs.Lists.{Rises}
 use Rattle.search.proofs.Indexes.{indexFrom, index-end}
 use Rattle.search.proofs.Halving.{Halved, half, halved-start, halved-right, halved-left, halved-kv, halved-edge, ends-first, ends-last, ends-past}
-use Rattle.search.proofs.Descents.{Seeking, header-in, at-within, keys-few, keys-rise, keys-none, found, ended, onward, edge-low}
+use Rattle.search.proofs.Descents.{Seeking, at-within, keys-few, keys-rise, keys-none, found, ended, onward, edge-low}
 use Rattle.search.proofs.search_tree.Statement.{statement}
 use Rattle.search.proofs.search_tree.Tie as tie
 use Rattle.search.proofs.search_tree.Reads as reads
@@ -36,16 +37,16 @@ Inv-levels a key node₀ height₀ node height = (s : State) → Holds a s → S
 abbrev μ-levels : tie.MeasureT-levels
 μ-levels a key node₀ height₀ node height = height
 
-shared-slice-read-t17 : tie.Need-shared-slice-read-t17 Inv-loop μ-loop Inv-levels μ-levels
-shared-slice-read-t17 c = header-in (c .before .before .pre) 3 (omega arith)
+root-requires : tie.Need-root-requires Inv-loop μ-loop Inv-levels μ-levels
+root-requires c κs = headed (c .before .pre)
 
-shared-slice-read-height : tie.Need-shared-slice-read-height Inv-loop μ-loop Inv-levels μ-levels
-shared-slice-read-height c = header-in (c .before .before .before .pre) 4 (omega arith)
+height-requires : tie.Need-height-requires Inv-loop μ-loop Inv-levels μ-levels
+height-requires c κs = headed (c .before .before .pre)
 
 levels-holds : tie.Need-levels-holds Inv-loop μ-loop Inv-levels μ-levels
 levels-holds c =
     let x = c .before .before .before .args in
-    λ s o. let r = root-at o (λ h d t. model.search (x .key) (s .whole) ≡ model.seek (x .key) h d t) refl in record { place = r .0; same = r .1 }
+    λ s o. rw (c .before .root .ensures, c .height .ensures) (let r = root-at o (λ h d t. model.search (x .key) (s .whole) ≡ model.seek (x .key) h d t) refl in record { place = r .0; same = r .1 })
 
 keys-requires : tie.Need-keys-requires Inv-loop μ-loop Inv-levels μ-levels
 keys-requires c κs =
@@ -223,8 +224,8 @@ search-tree-spec =
     μ-loop
     Inv-levels
     μ-levels
-    shared-slice-read-t17
-    shared-slice-read-height
+    root-requires
+    height-requires
     levels-holds
     keys-requires
     sub-k

@@ -4,11 +4,12 @@ use native.Mathlib.Omega.{arith}
 use borrow.Author.Needs.{needs}
 use Rattle.model.specs.Range.{fork, forkOf}
 use Rattle.model.specs.State.{State}
+use Rattle.header.proofs.Headed.{headed}
 use Rattle.model.specs.Lists.{Rises}
 use Rattle.model.specs.Promise.{Holds}
 use Rattle.model.proofs.Forward.{forward}
 use Rattle.model.proofs.Standing.{root-at}
-use Rattle.search.proofs.Descents.{Forking, header-in, at-within, keys-few, keys-rise, low-few, parting, coinciding, forking-on}
+use Rattle.search.proofs.Descents.{Forking, at-within, keys-few, keys-rise, low-few, parting, coinciding, forking-on}
 use Rattle.search.proofs.search_tree_for_bifurcation.Statement.{statement}
 use Rattle.search.proofs.search_tree_for_bifurcation.Tie as tie
 use Rattle.search.proofs.search_tree_for_bifurcation.Reads as reads
@@ -24,16 +25,16 @@ Inv-loop a node₀ height₀ bounds₀ node height bounds = (s : State) → Hold
 abbrev μ-loop : tie.MeasureT-loop
 μ-loop a node₀ height₀ bounds₀ node height bounds = height
 
-shared-slice-read-t16 : tie.Need-shared-slice-read-t16 Inv-loop μ-loop
-shared-slice-read-t16 c = header-in (c .before .before .pre) 3 (omega arith)
+root-requires : tie.Need-root-requires Inv-loop μ-loop
+root-requires c κs = headed (c .before .pre)
 
-shared-slice-read-height : tie.Need-shared-slice-read-height Inv-loop μ-loop
-shared-slice-read-height c = header-in (c .before .before .before .pre) 4 (omega arith)
+height-requires : tie.Need-height-requires Inv-loop μ-loop
+height-requires c κs = headed (c .before .before .pre)
 
 loop-holds : tie.Need-loop-holds Inv-loop μ-loop
 loop-holds c =
     let x = c .before .before .before .args in
-    λ s o. let r = root-at o (λ h d t. forkOf (x .range) (s .whole) ≡ fork (x .range) h d t) refl in record { place = r .0; same = r .1 }
+    λ s o. rw (c .before .root .ensures, c .height .ensures) (let r = root-at o (λ h d t. forkOf (x .range) (s .whole) ≡ fork (x .range) h d t) refl in record { place = r .0; same = r .1 })
 
 keys-requires : tie.Need-keys-requires Inv-loop μ-loop
 keys-requires c κs = let x = c .before .before .before .before in let o = forward (x .args .a .now) (x .pre) in at-within o ((c .loop .inv _ o) .place)
@@ -81,8 +82,8 @@ search-tree-for-bifurcation-spec =
     (tie.spec
     Inv-loop
     μ-loop
-    shared-slice-read-t16
-    shared-slice-read-height
+    root-requires
+    height-requires
     loop-holds
     keys-requires
     find-lower-bound-index-requires

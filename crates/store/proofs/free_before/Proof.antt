@@ -20,13 +20,11 @@ Inv-loop a n before₀ next₀ down₀ before next down = (down ≤ n .0) × ((h
 abbrev μ-loop : tie.MeasureT-loop
 μ-loop a n before₀ next₀ down₀ before next down = down
 
-shared-slice-read-next : tie.Need-shared-slice-read-next Inv-loop μ-loop
-shared-slice-read-next c =
-    let k = return-here (c .before .before .pre) in
-    omega arith
+first-free-requires : tie.Need-first-free-requires Inv-loop μ-loop
+first-free-requires c κs = return-here (c .before .pre) .0
 
 loop-holds : tie.Need-loop-holds Inv-loop μ-loop
-loop-holds c = (omega arith, λ h ns free r a. search-start free _ r _ (first-is a free _ _ r refl))
+loop-holds c = (omega arith, λ h ns free r a. search-start free _ r _ (c .first-free .ensures ∙ first-is a free _ _ r refl))
 
 -- a step of both searches is possible in the arena that there is
 here : (c : tie.In-loop Inv-loop μ-loop) → let l = c .before in let x = l .before .before .before .args in (l .loop .next < l .loop .down) × Within (x .a .now) (l .loop .next) × Within (x .a .now) (l .loop .down - 1)
@@ -87,7 +85,7 @@ free-before-spec =
     (tie.spec
     Inv-loop
     μ-loop
-    shared-slice-read-next
+    first-free-requires
     loop-holds
     sub-down
     state-requires

@@ -19,11 +19,11 @@ Inv-loop a₀ was is levels₀ node₀ a levels node = (length a ≡ length a₀
 abbrev μ-loop : tie.MeasureT-loop
 μ-loop a₀ was is levels₀ node₀ a levels node = levels
 
-known : (c : tie.At-loop Inv-loop μ-loop) → let x = c .before .before .before in Settling (c .loop .a) (x .pre .head) (x .pre .nodes) (c .loop .node .0) (c .loop .levels) (x .args .was) (x .args .is)
-known c = let p = c .before .before .before .pre in c .loop .inv .1 _ _ (lift-begin (p .arena) (p .holds))
+known : (c : tie.At-loop Inv-loop μ-loop) → let x = c .before .before .before .before in Settling (c .loop .a) (x .pre .head) (x .pre .nodes) (c .loop .node .0) (c .loop .levels) (x .args .was) (x .args .is)
+known c = let p = c .before .before .before .before .pre in c .loop .inv .1 _ _ (lift-begin (c .before .height .ensures) (p .arena) (p .holds))
 
-slice-read-levels : tie.Need-slice-read-levels Inv-loop μ-loop
-slice-read-levels c = omega (arith, arena-length (c .before .before .pre .arena))
+height-requires : tie.Need-height-requires Inv-loop μ-loop
+height-requires c κs = omega (arith, arena-length (c .before .before .pre .arena))
 
 loop-holds : tie.Need-loop-holds Inv-loop μ-loop
 loop-holds c = (refl, λ hd ns s. s)
@@ -47,9 +47,9 @@ returns : tie.Need-returns Inv-loop μ-loop
 returns c =
     λ hd ns l a.
     let t = c .before .before .before .before .before .before in
-    lift-end (t .before .before .loop .inv .1 hd ns (lift-begin a l)) _ (t .change .ensures) (sym (c .before .before .ascend .ensures) ∙ c .enum-told .given .1)
+    lift-end (t .before .before .loop .inv .1 hd ns (lift-begin (c .before .before .before .before .before .before .before .before .before .height .ensures) a l)) _ (t .change .ensures) (sym (c .before .before .ascend .ensures) ∙ c .enum-told .given .1)
 
-on : (c : tie.After-known-told Inv-loop μ-loop) → let t = c .before .before .before .before .before .before .before in let l = t .before .before .loop in let x = t .before .before .before .before .before .args in
+on : (c : tie.After-known-told Inv-loop μ-loop) → let t = c .before .before .before .before .before .before .before in let l = t .before .before .loop in let x = t .before .before .before .before .before .before .args in
     (hd : List ℕ) (ns : List NodeVal) → Settling (l .a) hd ns (l .node .0) (l .levels) (x .was) (x .is) → (1 ≤ l .levels) × Settling (t .change .last .0) hd ns (c .before .parent .given .0 .0 .0) (l .levels - 1) (x .was) (x .is)
 on c hd ns s =
     let t = c .before .before .before .before .before .before .before in
@@ -77,7 +77,7 @@ lift-spec =
     (tie.spec
     Inv-loop
     μ-loop
-    slice-read-levels
+    height-requires
     loop-holds
     change-requires
     ascend-requires

@@ -10,17 +10,17 @@ use borrow.Author.Needs.{needs}
 use Rattle.upgrade.proofs.copy_node.Statement.{statement}
 use Rattle.upgrade.proofs.copy_node.Tie as tie
 
-sub-copy-words : tie.Need-sub-copy-words
-sub-copy-words c = search needs
+sub-copy-from-slice : tie.Need-sub-copy-from-slice
+sub-copy-from-slice c = search needs
 
-part-copy-words-start : tie.Need-part-copy-words-start
-part-copy-words-start c = search needs
+part-copy-from-slice-start : tie.Need-part-copy-from-slice-start
+part-copy-from-slice-start c = search needs
 
-part-copy-words-end : tie.Need-part-copy-words-end
-part-copy-words-end c = search needs
+part-copy-from-slice-end : tie.Need-part-copy-from-slice-end
+part-copy-from-slice-end c = search needs
 
-copy-words-requires : tie.Need-copy-words-requires
-copy-words-requires c κs = search needs
+copy-from-slice-requires : tie.Need-copy-from-slice-requires
+copy-from-slice-requires c κs = search needs
 
 slice-write-to : tie.Need-slice-write-to
 slice-write-to c = search needs
@@ -29,16 +29,16 @@ same-length : tie.Need-same-length
 same-length c = search needs
 
 returns : tie.Need-returns
-returns c = let x = c .before .before .before .before .before .before in ap (λ (l : List ℕ). set (l ++ drop totalWord (x .args .to .now)) totalWord 0) (c .before .before .copy-words .ensures) ∙ node-words (x .args .from .now) (x .args .to .now) (x .pre .0) (x .pre .1)
+returns c = let x = c .before .before .before .before .before .before in ap (λ (l : List ℕ). set (l ++ drop totalWord (x .args .to .now)) totalWord 0) (c .before .before .copy-from-slice .ensures) ∙ node-words (x .args .from .now) (x .args .to .now) (x .pre .0) (x .pre .1)
 
 pub copy-node-spec : {M : Type 1} → statement M
 copy-node-spec =
     tie.close
     (tie.spec
-    sub-copy-words
-    part-copy-words-start
-    part-copy-words-end
-    copy-words-requires
+    sub-copy-from-slice
+    part-copy-from-slice-start
+    part-copy-from-slice-end
+    copy-from-slice-requires
     slice-write-to
     same-length
     returns)

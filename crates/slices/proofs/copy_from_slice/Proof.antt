@@ -1,19 +1,19 @@
--- `restore::copy_over` meets its contract: the image's first words, then those still to be written over.
+-- `slices::copy_from_slice` meets its contract: the other's first words, then those still to be written over.
 -- Assumes nothing.
 use mathlib.Core.Path.{_≡_, refl, _∙_}
 use mathlib.Core.List.{_++_}
 use Prim.Native.Nat.{_+_, _-_, _≤_}
 use native.Mathlib.Omega.{arith}
 use lib.ListN.{length, take, drop, length-set}
-use Rattle.restore.proofs.Restored.{turn, copied}
-use Rattle.restore.proofs.copy_over.Statement.{statement}
-use Rattle.restore.proofs.copy_over.Tie as tie
+use Rattle.slices.proofs.Laws.{copy-turn, copy-whole}
+use Rattle.slices.proofs.copy_from_slice.Statement.{statement}
+use Rattle.slices.proofs.copy_from_slice.Tie as tie
 
 abbrev Inv-loop : tie.InvT-loop
-Inv-loop a₀ image i₀ a i = (i ≤ length a) × (length a ≡ length a₀) × (a ≡ take i image ++ drop i a₀)
+Inv-loop s₀ src i₀ s i = (i ≤ length s) × (length s ≡ length s₀) × (s ≡ take i src ++ drop i s₀)
 
 abbrev μ-loop : tie.MeasureT-loop
-μ-loop a₀ image i₀ a i = length a₀ - i
+μ-loop s₀ src i₀ s i = length s₀ - i
 
 loop-holds : tie.Need-loop-holds Inv-loop μ-loop
 loop-holds c = (omega arith, refl, refl)
@@ -24,11 +24,11 @@ mul-t c = omega arith
 shared-slice-read-t : tie.Need-shared-slice-read-t Inv-loop μ-loop
 shared-slice-read-t c = omega arith
 
-mul-a : tie.Need-mul-a Inv-loop μ-loop
-mul-a c = omega arith
+mul-s : tie.Need-mul-s Inv-loop μ-loop
+mul-s c = omega arith
 
-slice-write-a : tie.Need-slice-write-a Inv-loop μ-loop
-slice-write-a c = omega arith
+slice-write-s : tie.Need-slice-write-s Inv-loop μ-loop
+slice-write-s c = omega arith
 
 add-i : tie.Need-add-i Inv-loop μ-loop
 add-i c = omega arith
@@ -40,7 +40,7 @@ loop-again : tie.Need-loop-again Inv-loop μ-loop
 loop-again c =
     let l = c .before .before .loop in
     let x = c .before .before .before .args in
-    (simp length-set (omega arith), simp length-set (l .inv .1), rw (l .inv .2) (turn (x .a .now) (x .image .now) (l .i) (omega arith) (omega arith)))
+    (simp length-set (omega arith), simp length-set (l .inv .1), rw (l .inv .2) (copy-turn (x .s .now) (x .src .now) (l .i) (omega arith) (omega arith)))
 
 same-length : tie.Need-same-length Inv-loop μ-loop
 same-length c = c .before .loop .inv .1
@@ -49,10 +49,10 @@ returns : tie.Need-returns Inv-loop μ-loop
 returns c =
     let l = c .before .loop in
     let x = c .before .before .args in
-    l .inv .2 ∙ copied (x .a .now) (x .image .now) (l .i) (omega arith) (omega arith)
+    l .inv .2 ∙ copy-whole (x .s .now) (x .src .now) (l .i) (omega arith) (omega arith)
 
-pub copy-over-spec : {M : Type 1} → statement M
-copy-over-spec =
+pub copy-from-slice-spec : {M : Type 1} → statement M
+copy-from-slice-spec =
     tie.close
     (tie.spec
     Inv-loop
@@ -60,8 +60,8 @@ copy-over-spec =
     loop-holds
     mul-t
     shared-slice-read-t
-    mul-a
-    slice-write-a
+    mul-s
+    slice-write-s
     add-i
     loop-less
     loop-again

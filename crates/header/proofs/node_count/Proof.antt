@@ -1,10 +1,10 @@
--- `format::node_count` meets its contract.
+-- `header::node_count` meets its contract.
 -- Assumes nothing.
 use mathlib.Core.Path.{sym}
-use Rattle.format.proofs.Formatted.{counted}
+use Rattle.header.proofs.Headed.{counted}
 use borrow.Author.Needs.{needs}
-use Rattle.format.proofs.node_count.Statement.{statement}
-use Rattle.format.proofs.node_count.Tie as tie
+use Rattle.header.proofs.node_count.Statement.{statement}
+use Rattle.header.proofs.node_count.Tie as tie
 
 returns : tie.Need-returns
 returns c = search needs
