@@ -12,18 +12,13 @@ use std::time::Instant;
 #[path = "../rust/src/ffi.rs"]
 mod ffi;
 mod orders;
+#[allow(dead_code)]
+mod rivals;
 
 use orders::{drawn, median, mixed, orders, quarters, Keys, Rand, OPS};
-
-#[repr(C)]
-struct Absl {
-    opaque: [u8; 0],
-}
+use rivals::{absl_batch, absl_free, absl_new, Absl};
 
 extern "C" {
-    fn absl_new() -> *mut Absl;
-    fn absl_free(map: *mut Absl);
-    fn absl_batch(map: *mut Absl, orders: *const u64, n: usize, answers: *mut u64);
     fn timed_absl_batch(map: *mut Absl, orders: *const u64, n: usize, answers: *mut u64);
     fn timed_absl_list(map: *mut Absl, out: *mut u64, room: usize) -> usize;
 }
@@ -57,22 +52,13 @@ fn timed_ours_list(arena: &[u64], out: &mut [u64]) -> usize {
 #[no_mangle]
 #[inline(never)]
 fn timed_or(arena: &[u64]) -> u64 {
-    arena.iter().fold(0, |all, word| all | word)
+    rivals::or(arena)
 }
 
 #[no_mangle]
 #[inline(never)]
 fn timed_btree_batch(map: &mut BTreeMap<u64, u64>, orders: &[u64], answers: &mut [u64]) {
-    for (order, answer) in orders.chunks_exact(3).zip(answers.chunks_exact_mut(2)) {
-        let (number, second) = match order[0] {
-            1 => map.insert(order[1], order[2]).map_or((0, 0), |v| (1, v)),
-            2 => map.get(&order[1]).map_or((2, 0), |v| (1, *v)),
-            3 => map.remove(&order[1]).map_or((2, 0), |v| (1, v)),
-            _ => (6, 0),
-        };
-        answer[0] = number;
-        answer[1] = second;
-    }
+    rivals::btree_batch(map, orders, answers);
 }
 
 #[no_mangle]

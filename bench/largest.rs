@@ -17,10 +17,13 @@ mod ffi;
 #[allow(dead_code)]
 mod orders;
 #[allow(dead_code)]
+mod rivals;
+#[allow(dead_code)]
 #[path = "../oracle/src/words.rs"]
 mod words;
 
 use orders::{quarters, Rand};
+use rivals::spent;
 use words::{LARGEST, NONE};
 
 const NODES: [usize; 2] = [65_535, LARGEST];
@@ -28,25 +31,9 @@ const ROUNDS: usize = 9;
 const PUT: u64 = 1;
 const DELETE: u64 = 3;
 
-extern "C" {
-    fn clock_gettime(clock: i32, time: *mut [i64; 2]) -> i32;
-}
-
-/// The thread's processor time of something, in nanoseconds.
-fn spent(f: impl FnOnce()) -> f64 {
-    let now = || {
-        let mut time = [0; 2];
-        assert_eq!(unsafe { clock_gettime(3, &mut time) }, 0); // CLOCK_THREAD_CPUTIME_ID
-        time[0] as f64 * 1e9 + time[1] as f64
-    };
-    let start = now();
-    f();
-    now() - start
-}
-
 #[inline(never)]
 fn timed_or(arena: &[u64]) -> u64 {
-    arena.iter().fold(0, |all, word| all | word)
+    rivals::or(arena)
 }
 
 /// A number that differs if a word does, but for bad luck.

@@ -15,6 +15,11 @@ mod ffi;
 #[allow(dead_code)]
 mod orders;
 #[allow(dead_code)]
+mod rivals;
+#[allow(dead_code)]
+#[path = "../rust/src/sizes.rs"]
+mod sizes;
+#[allow(dead_code)]
 #[path = "../oracle/src/words.rs"]
 mod words;
 
@@ -22,30 +27,16 @@ use orders::quarters;
 
 const PAIRS: [usize; 3] = [1_000, 50_000, 1_000_000];
 
-extern "C" {
-    fn clock_gettime(clock: i32, time: *mut [i64; 2]) -> i32;
-}
-
 /// The thread's processor time of something, in nanoseconds, and what it made.
 fn spent<T>(f: impl FnOnce() -> T) -> (f64, T) {
-    let now = || {
-        let mut time = [0; 2];
-        assert_eq!(unsafe { clock_gettime(3, &mut time) }, 0); // CLOCK_THREAD_CPUTIME_ID
-        time[0] as f64 * 1e9 + time[1] as f64
-    };
-    let start = now();
-    let made = f();
-    (now() - start, made)
+    let mut made = None;
+    let time = rivals::spent(|| made = Some(f()));
+    (time, made.expect("it was run"))
 }
 
+/// The nodes that a load takes.
 fn nodes_for(pairs: usize) -> usize {
-    let mut left = pairs / 12;
-    let mut nodes = left + 1;
-    while left > 0 {
-        left /= 12;
-        nodes += left + 1;
-    }
-    nodes
+    sizes::nodes_for_load(pairs).expect("so many fit")
 }
 
 /// The arena holds these pairs, in order.

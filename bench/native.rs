@@ -11,8 +11,10 @@ use std::collections::BTreeMap;
 use std::hint::black_box;
 
 mod orders;
+mod rivals;
 
 use orders::{drawn, median, mixed, orders, quarters, Keys, Rand, OPS};
+use rivals::{absl_batch, absl_free, absl_new, spent, Absl};
 
 /// A variant's calls.
 pub struct Ours {
@@ -67,49 +69,19 @@ impl Ours {
     }
 }
 
-#[repr(C)]
-struct Absl {
-    opaque: [u8; 0],
-}
-
 extern "C" {
-    fn absl_new() -> *mut Absl;
-    fn absl_free(map: *mut Absl);
-    fn absl_batch(map: *mut Absl, orders: *const u64, n: usize, answers: *mut u64);
-    fn clock_gettime(clock: i32, time: *mut [i64; 2]) -> i32;
     fn collect_begin();
     fn collect_end(name: *const std::ffi::c_char);
 }
 
 #[inline(never)]
 fn timed_or(arena: &[u64]) -> u64 {
-    arena.iter().fold(0, |all, word| all | word)
+    rivals::or(arena)
 }
 
 #[inline(never)]
 fn btree_batch(map: &mut BTreeMap<u64, u64>, orders: &[u64], answers: &mut [u64]) {
-    for (order, answer) in orders.chunks_exact(3).zip(answers.chunks_exact_mut(2)) {
-        let (number, second) = match order[0] {
-            1 => map.insert(order[1], order[2]).map_or((0, 0), |v| (1, v)),
-            2 => map.get(&order[1]).map_or((2, 0), |v| (1, *v)),
-            3 => map.remove(&order[1]).map_or((2, 0), |v| (1, v)),
-            _ => (6, 0),
-        };
-        answer[0] = number;
-        answer[1] = second;
-    }
-}
-
-/// Nanoseconds of the thread's own time.
-fn spent(f: impl FnOnce()) -> f64 {
-    let now = || {
-        let mut time = [0; 2];
-        assert_eq!(unsafe { clock_gettime(3, &mut time) }, 0); // CLOCK_THREAD_CPUTIME_ID
-        time[0] as f64 * 1e9 + time[1] as f64
-    };
-    let start = now();
-    f();
-    now() - start
+    rivals::btree_batch(map, orders, answers);
 }
 
 /// One part of callgrind's file, under a name.

@@ -1,6 +1,7 @@
 /* Cuffgarnet for C and C++: an ordered index from 64-bit keys to 64-bit values over words that the caller lends.
  *
- * Link target/staticlib/libcuffgarnet.a, which tools/library makes; nothing else is needed.
+ * Link libcuffgarnet.a; nothing else is needed. `make install` puts it beside this header, and `pkg-config --cflags --libs cuffgarnet` says
+ * where; in the repository it is target/staticlib/libcuffgarnet.a, which tools/library makes.
  *
  * Every call is proved: for any words that it is lent, what it returns and what every lent word holds when it ends
  * (crates/cuffgarnet/src/lib.rt). The caller's part, which no proof can see, is what Rust's references ask:
@@ -24,6 +25,10 @@
 #ifdef __cplusplus
 extern "C" {
 #endif
+
+/* The version of this header and of the archive that was installed with it: three numbers as text, and as one number that rises. */
+#define CUFFGARNET_VERSION "0.2.0"
+#define CUFFGARNET_VERSION_NUMBER 2000 /* 1,000,000 a major, 1,000 a minor, 1 a patch */
 
 /* The numbers that calls return, and that a batch writes for each order. From 3 on they are refusals: no lent word has
  * changed, but for the words of the answer (`second` and the like), which are written at every call and are then 0, and a cursor that
@@ -81,18 +86,14 @@ enum cuffgarnet_code {
 /* The same of format 1, which had no count of pairs in a node and 38 words. Only cuffgarnet_upgrade reads it. */
 #define CUFFGARNET_WORDS_FORMAT_1(nodes) (10u + 38u * (size_t)(nodes))
 
-/* How many nodes a load of so many pairs takes. No tree of so many pairs has fewer. */
-static inline uint64_t cuffgarnet_nodes_for(uint64_t pairs) {
-    uint64_t nodes = pairs / 12 + 1;
-    while ((pairs /= 12) > 0) nodes += pairs / 12 + 1;
-    return nodes;
-}
-
-/* Words of the header that a program may read once a check has passed. */
-#define CUFFGARNET_WORD_PAIRS 5 /* how many pairs there are */
-#define CUFFGARNET_WORD_FREE 7  /* how many nodes are free */
-#define CUFFGARNET_WORD_SEEN 8  /* 1 if a key was ever put or reserved, else 0 */
-#define CUFFGARNET_WORD_MARK 9  /* the largest key ever put, loaded, reserved or restored; only format, load and upgrade forget it */
+/* Words of the header that a program may read once a check has passed; cuffgarnet_stats does both. */
+#define CUFFGARNET_WORD_NODES 1  /* how many nodes there are, in use and free */
+#define CUFFGARNET_WORD_HEIGHT 4 /* how many levels lie below the root */
+#define CUFFGARNET_WORD_PAIRS 5  /* how many pairs there are */
+#define CUFFGARNET_WORD_FREE 7   /* how many nodes are free */
+#define CUFFGARNET_WORD_SEEN 8   /* 1 if there is a mark, else 0 */
+#define CUFFGARNET_WORD_MARK 9   /* the largest key ever put or reserved, or brought by a load, a restore, a cut or a join; forgotten only
+                                  * by format, and by load, upgrade and cut in the words that they write anew */
 
 /* Formats n words as an empty arena, and forgets the mark. 0; 7 if n is not 10 + 39 N for an N of 1 to 1,048,575. */
 uint64_t cuffgarnet_format(uint64_t *arena, uint64_t n);
@@ -181,20 +182,58 @@ uint64_t cuffgarnet_upgrade(const uint64_t *source, uint64_t source_n, uint64_t 
 /* Loads a run of pairs that are in order already, key then value, into n words that it formats first; whatever the words held, a mark
  * too, is forgotten. The nodes are filled from the left, each to its 11 pairs; the mark is the last key, and there is none if the run is
  * empty. 0; 7 if run_n is odd, or n is not 10 + 39 N for an N of 1 to 1,048,575; then 10 if the keys do not rise strictly; then 3 if N
- * is less than cuffgarnet_nodes_for(run_n / 2). The run does not change. */
+ * is less than cuffgarnet_nodes_for_load(run_n / 2). The run does not change. */
 uint64_t cuffgarnet_load(uint64_t *arena, uint64_t n, const uint64_t *run, uint64_t run_n);
 
-/* Cuts the pairs with keys from key on off the arena. They go into the upper_n words of upper, which are formatted for them and end as a
- * load of them leaves its words; whatever they held is forgotten. Both have the arena's mark then. 0; 7 if upper_n is not 10 + 39 N for an N of
- * 1 to 1,048,575; then 4 if the arena is not well-formed; then 3 if that N is less than cuffgarnet_nodes_for the pairs that go. The arena needs
- * no free node, and cuffgarnet_rank tells before how many pairs stay. */
+/* Cuts the pairs with keys from key on off the arena. They go into the upper_n words of upper, which are formatted for them and end as
+ * a load of them leaves its words; whatever they held is forgotten. Both have the arena's mark then. 0; 7 if upper_n is not 10 + 39 N for
+ * an N of 1 to 1,048,575; then 4 if the arena is not well-formed; then 3 if that N is less than cuffgarnet_nodes_for_load of the pairs
+ * that go. The arena needs no free node, and cuffgarnet_rank tells before how many pairs stay. */
 uint64_t cuffgarnet_cut(uint64_t *arena, uint64_t n, uint64_t key, uint64_t *upper, uint64_t upper_n);
 
-/* Joins the second arena to the first. The first then holds the pairs of both, the second's value where a key is in both, in the words that a
- * load of them leaves; its mark is the larger of the marks seen. The second ends as formatted, with its own mark. The pairs are also written to
- * run, key then value, from its first word on; further words of it stay. 0; 4 if either is not well-formed; then 7 if run_n is less than 2
- * for each pair of both, a key in both counted twice; then 3 if the first's N is less than cuffgarnet_nodes_for the pairs that it is to hold. */
-uint64_t cuffgarnet_join(uint64_t *first, uint64_t first_n, uint64_t *second, uint64_t second_n, uint64_t *run, uint64_t run_n);
+/* Joins the second arena to the first. The first then holds the pairs of both, the second's value where a key is in both, in the words
+ * that a load of them leaves; its mark is the larger of the marks seen. The second ends as formatted, with its own mark. The pairs are
+ * also written to run, key then value, from its first word on; further words of it stay. 0; 4 if either is not well-formed; then 7 if
+ * run_n is less than 2 for each pair of both, a key in both counted twice; then 3 if the first's N is less than
+ * cuffgarnet_nodes_for_load of the pairs that it is to hold. */
+uint64_t cuffgarnet_join(uint64_t *first, uint64_t first_n, uint64_t *second, uint64_t second_n, uint64_t *run,
+                         uint64_t run_n);
+
+/* The three functions below are C, and stand here: all that the archive exports is proved. */
+
+/* What CUFFGARNET_VERSION was when this was compiled. */
+static inline const char *cuffgarnet_version(void) { return CUFFGARNET_VERSION; }
+
+/* How many nodes a load of so many pairs takes. No tree of so many pairs has fewer; one that grew by puts may have twice as many. */
+static inline uint64_t cuffgarnet_nodes_for_load(uint64_t pairs) {
+    uint64_t nodes = pairs / 12 + 1;
+    while ((pairs /= 12) > 0) nodes += pairs / 12 + 1;
+    return nodes;
+}
+
+/* What the header says of a checked arena. */
+struct cuffgarnet_stats {
+    uint64_t nodes;  /* in use and free */
+    uint64_t free;   /* free nodes */
+    uint64_t pairs;  /* how many pairs there are */
+    uint64_t height; /* levels below the root */
+    uint64_t seen;   /* 1 if there is a mark, else 0 */
+    uint64_t mark;   /* see CUFFGARNET_WORD_MARK; 0 while seen is 0 */
+};
+
+/* How full an arena is and what it has spent, behind one check. 0; 4, and then every field is 0. The next counter is the mark plus 1,
+ * unless the mark is UINT64_MAX: then all are spent. Changes nothing in the arena. */
+static inline uint64_t cuffgarnet_stats(const uint64_t *arena, uint64_t n, struct cuffgarnet_stats *stats) {
+    const uint64_t answer = cuffgarnet_check(arena, n);
+    const int good = answer == CUFFGARNET_DONE;
+    stats->nodes = good ? arena[CUFFGARNET_WORD_NODES] : 0;
+    stats->free = good ? arena[CUFFGARNET_WORD_FREE] : 0;
+    stats->pairs = good ? arena[CUFFGARNET_WORD_PAIRS] : 0;
+    stats->height = good ? arena[CUFFGARNET_WORD_HEIGHT] : 0;
+    stats->seen = good ? arena[CUFFGARNET_WORD_SEEN] : 0;
+    stats->mark = good ? arena[CUFFGARNET_WORD_MARK] : 0;
+    return answer;
+}
 
 #ifdef __cplusplus
 }

@@ -22,7 +22,7 @@ int main(void) {
     }
 
     /* as many nodes as the load takes, and some for what comes later; the words need no formatting */
-    uint64_t nodes = cuffgarnet_nodes_for(PAIRS) + 20;
+    uint64_t nodes = cuffgarnet_nodes_for_load(PAIRS) + 20;
     uint64_t n = CUFFGARNET_WORDS(nodes);
     uint64_t *arena = malloc(n * sizeof *arena);
     if (arena == NULL) return 1;

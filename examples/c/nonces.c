@@ -22,16 +22,24 @@ static void say(const char *what, uint64_t number, uint64_t second) {
 
 /* The next counter: above every key that was ever put, whatever was restored since. */
 static uint64_t next_counter(void) {
-    if (cuffgarnet_check(arena, N) != CUFFGARNET_DONE) {
+    struct cuffgarnet_stats stats;
+    if (cuffgarnet_stats(arena, N, &stats) != CUFFGARNET_DONE) {
         fprintf(stderr, "the arena is damaged\n");
         exit(1);
     }
-    if (arena[CUFFGARNET_WORD_SEEN] == 0) return 1;
-    if (arena[CUFFGARNET_WORD_MARK] == UINT64_MAX) {
+    if (stats.seen == 0) return 1;
+    if (stats.mark == UINT64_MAX) {
         fprintf(stderr, "all counters are spent\n");
         exit(1);
     }
-    return arena[CUFFGARNET_WORD_MARK] + 1;
+    return stats.mark + 1;
+}
+
+static void say_stats(void) {
+    struct cuffgarnet_stats s;
+    say("stats", cuffgarnet_stats(arena, N, &s), 0);
+    printf("    %llu pairs, %llu of %llu nodes free, height %llu, seen %llu, mark %llu\n", (unsigned long long)s.pairs, (unsigned long long)s.free,
+           (unsigned long long)s.nodes, (unsigned long long)s.height, (unsigned long long)s.seen, (unsigned long long)s.mark);
 }
 
 static void list_all(void) {
@@ -46,6 +54,7 @@ static void list_all(void) {
 int main(void) {
     uint64_t number, second, written, more;
 
+    printf("cuffgarnet %s\n", cuffgarnet_version());
     say("format", cuffgarnet_format(arena, N), 0);
     for (int message = 0; message < 3; message++) {
         uint64_t counter = next_counter();
@@ -90,6 +99,7 @@ int main(void) {
     say("restore, an older one is meant", cuffgarnet_restore(arena, N, image, N, CUFFGARNET_OLDER_IS_MEANT), 0);
     list_all();
     printf("next counter %llu\n", (unsigned long long)next_counter());
+    say_stats();
 
     /* one check for all orders of a batch */
     const uint64_t orders[] = {

@@ -219,6 +219,21 @@ impl<'s> Map<'s> {
         out
     }
 
+    /// split_off, and the pairs that went. Their nodes are free then, as if the right part had been dropped.
+    pub fn split_off(&mut self, key: u64) -> Vec<(u64, u64)> {
+        let Some(root) = &mut self.root else { return Vec::new() };
+        let right = Map { root: Some(root.split_off(&key, self.slab.alloc())), length: 0, slab: self.slab };
+        let mut w = vec![0; words::long(self.slab.count())];
+        right.top().into_iter().for_each(|top| right.write(top, &mut w));
+        let mut chain = self.slab.chain();
+        chain.extend((0..self.slab.count() as u64).filter(|n| words::node(&w, *n)[words::STATE] != 0));
+        chain.sort_unstable();
+        self.slab.set_chain(&chain);
+        let gone: Vec<(u64, u64)> = right.places().into_iter().map(|(k, v, ..)| (k, v)).collect();
+        self.length -= gone.len();
+        gone
+    }
+
     pub fn fix_right_border(&mut self) {
         let alloc = self.slab.alloc();
         if let Some(root) = &mut self.root {
@@ -278,25 +293,6 @@ impl<'s> Map<'s> {
         };
         words::write_header(&mut w, count, root, height, self.length as u64, &chain, seen, mark);
         w
-    }
-
-    /// The words of so many nodes, of which all that this map has not are free.
-    pub fn words_alone(&self, count: usize, seen: u64, mark: u64) -> Vec<u64> {
-        let mut w = vec![0; HEADER + WORDS * count];
-        let top = self.top().expect("a map with a root");
-        self.write(top, &mut w);
-        let chain: Vec<u64> = (0..count as u64).filter(|n| words::node(&w, *n)[words::STATE] == 0).collect();
-        words::write_header(&mut w, count, self.number(top), top.height() as u64, self.length as u64, &chain, seen, mark);
-        w
-    }
-
-    /// The pairs from a key on leave the map. The nodes that they take with them stay in use.
-    pub fn split_off(&mut self, key: u64) {
-        let alloc = self.slab.alloc();
-        if let Some(root) = &mut self.root {
-            let upper = root.split_off(&key, alloc);
-            self.length = Root::calc_split_length(self.length, root, &upper).0;
-        }
     }
 
     fn write(&self, node: Node<'_>, w: &mut [u64]) {

@@ -56,8 +56,8 @@ fn main() {
     let mut run = || -> Result<(), String> {
         refusals::all(&mut totals)?;
         loads::all(&mut totals, fault, scale)?;
-        cuts::all(&mut totals, fault, scale)?;
         joins::all(&mut totals, fault, scale)?;
+        cuts::all(&mut totals, fault, scale)?;
         shapes::two_and_three_leaves(&mut totals, fault)?;
         shapes::two_and_three_inner(&mut totals, fault, scale)?;
         shapes::smallest_and_full(&mut totals, fault)?;

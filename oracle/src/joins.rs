@@ -4,13 +4,14 @@
 use std::collections::BTreeMap;
 
 use crate::btree::Map;
+use crate::loads::taken;
 use crate::ours;
 use crate::pair::{Fault, Totals};
 use crate::slab::Slab;
 use crate::source::Random;
 use crate::words;
 
-pub type Run = Vec<(u64, u64)>;
+type Run = Vec<(u64, u64)>;
 
 /// An arena made by orders of all kinds, and its pairs.
 pub struct Arena {
@@ -70,13 +71,6 @@ fn joined(first: &Arena, second: &Arena) -> Result<Run, String> {
         return Err(format!("BTreeMap::append and the plain list differ: {run:?} {plain:?}"));
     }
     Ok(run)
-}
-
-/// How many nodes bulk_push takes.
-pub fn taken(run: &Run) -> usize {
-    let slab = Slab::new(run.len() / 5 + 2);
-    Map::load(&slab, run);
-    slab.traffic().0 as usize
 }
 
 /// One join with a third slice of so many words.
@@ -154,8 +148,8 @@ pub fn all(totals: &mut Totals, fault: Option<Fault>, scale: u64) -> Result<(), 
         // sizes from none to thousands of pairs, keys in few or in none of the other, nodes just enough or not
         let most = 1 << random.below(if turn % 50 == 0 { 13 } else { 8 });
         let (n, m) = (random.below(most + 1), random.below(most + 1));
-        let spread = random.below(40);
-        let below = 1 + random.below(2 << spread);
+        let bits = 1 + random.below(40);
+        let below = 1 + random.below(1 << bits);
         let first = Arena::made(1 + random.below(most / 4 + 2) as usize, n, below, &mut random)?;
         let second = Arena::made(1 + random.below(most / 4 + 2) as usize, m, below, &mut random)?;
         let all = 2 * (first.pairs.len() + second.pairs.len());

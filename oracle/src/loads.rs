@@ -15,7 +15,7 @@ fn flat(run: &Run) -> Vec<u64> {
 }
 
 /// How many nodes bulk_push takes.
-fn taken(run: &Run) -> usize {
+pub fn taken(run: &Run) -> usize {
     let slab = Slab::new(run.len() / 5 + 2);
     Map::load(&slab, run);
     slab.traffic().0 as usize

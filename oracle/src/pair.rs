@@ -32,16 +32,17 @@ pub enum Fault {
     Count,
     /// The mark of a load is its first key.
     First,
-    /// The mark of the second after a cut is its last key.
-    Forgotten,
     /// A join writes the first's value of a key in both.
     Own,
+    /// The mark of a cut's upper part is its last key.
+    Last,
     /// A step of a cursor is made twice.
     Twofold,
 }
 
 impl Fault {
-    pub const NAMES: [&str; 13] = ["value", "kept", "chain", "halves", "more", "twice", "meant", "itself", "count", "first", "forgotten", "own", "twofold"];
+    pub const NAMES: [&str; 13] =
+        ["value", "kept", "chain", "halves", "more", "twice", "meant", "itself", "count", "first", "own", "last", "twofold"];
 
     pub fn named(name: &str) -> Option<Fault> {
         Some(match name {
@@ -55,8 +56,8 @@ impl Fault {
             "itself" => Fault::Itself,
             "count" => Fault::Count,
             "first" => Fault::First,
-            "forgotten" => Fault::Forgotten,
             "own" => Fault::Own,
+            "last" => Fault::Last,
             "twofold" => Fault::Twofold,
             _ => return None,
         })
@@ -102,16 +103,18 @@ pub struct Totals {
     pub loads: u64,
     pub loaded: u64,
     pub not_loaded: u64,
-    /// Cuts held against split_off and bulk_push, and the pairs that went; and how many were refused.
-    pub cuts: u64,
-    pub cut_off: u64,
-    pub not_cut: u64,
     /// Joins held against BTreeMap::append and bulk_push, and their pairs; and how many were refused.
     pub joins: u64,
     pub joined: u64,
     pub not_joined: u64,
+    /// Cuts held against split_off and bulk_push, and the pairs that went; and how many were refused.
+    pub cuts: u64,
+    pub cut: u64,
+    pub not_cut: u64,
     /// Moves of a cursor, held against the Rust's iterator.
     pub moves: u64,
+    /// Steps from any place, held against the rule for 9 alone.
+    pub strays: u64,
     /// Border repairs, forks and steps along pairs, where they can be called.
     pub borders: u64,
     pub forks: u64,
@@ -153,9 +156,9 @@ impl fmt::Display for Totals {
         writeln!(f, "reserves around the mark, by the rule alone: {}", self.reserves)?;
         writeln!(f, "ranks, counts and pairs at a rank, by the plain list: {}; upgrades of format 1: {}", self.ranks, self.upgrades)?;
         writeln!(f, "loads {}, of {} pairs; refused {}", self.loads, self.loaded, self.not_loaded)?;
-        writeln!(f, "cuts {}, of {} pairs; refused {}", self.cuts, self.cut_off, self.not_cut)?;
         writeln!(f, "joins {}, of {} pairs; refused {}", self.joins, self.joined, self.not_joined)?;
-        writeln!(f, "moves of a cursor, by the Rust's iterator: {}", self.moves)?;
+        writeln!(f, "cuts {}, of {} pairs that went; refused {}", self.cuts, self.cut, self.not_cut)?;
+        writeln!(f, "moves of a cursor, by the Rust's iterator: {}; steps from any place, by the rule for 9: {}", self.moves, self.strays)?;
         if cfg!(inner) {
             writeln!(f, "border repairs {}, forks {}, steps along pairs {}", self.borders, self.forks, self.steps)?;
         }

@@ -21,7 +21,9 @@ pub fn all(totals: &mut Totals) -> Result<(), String> {
         Plan::Inner(vec![leaves(&[5, 6, 5, 7, 5, 5]), leaves(&[5, 5, 8, 5, 5, 11])]),
     ] {
         for spare in [0, 3] {
-            damages(totals, &plan.words(spare, &mut random))?;
+            let whole = plan.words(spare, &mut random);
+            damages(totals, &whole)?;
+            cursors(totals, &whole)?;
         }
     }
     short(totals)?;
@@ -182,8 +184,6 @@ fn short(totals: &mut Totals) -> Result<(), String> {
             return Err(format!("from {start:?} to {end:?} a listing says {said:?}, a count {count:?}"));
         }
     }
-    // a seek with such a bound
-    cursors(&whole, 5)?;
     Ok(())
 }
 
@@ -268,12 +268,9 @@ fn upgrades(totals: &mut Totals) -> Result<(), String> {
     let mut random = Random::new(12);
     let leaves = |row: &[usize]| Plan::Inner(row.iter().map(|n| Plan::Leaf(*n)).collect());
     let mut wholes = vec![words::formatted(1), words::formatted(3), words::formatted(39)];
-    for plan in [
-        Plan::Leaf(0),
-        Plan::Leaf(11),
-        leaves(&[11, 5, 7]),
-        Plan::Inner(vec![leaves(&[5, 6, 5, 7, 5, 5]), leaves(&[5, 5, 8, 5, 5, 11])]),
-    ] {
+    for plan in
+        [Plan::Leaf(0), Plan::Leaf(11), leaves(&[11, 5, 7]), Plan::Inner(vec![leaves(&[5, 6, 5, 7, 5, 5]), leaves(&[5, 5, 8, 5, 5, 11])])]
+    {
         wholes.extend([0, 3].map(|spare| plan.words(spare, &mut random)));
     }
     for whole in wholes {
@@ -344,39 +341,6 @@ fn upgrade(totals: &mut Totals, source: &[u64], near: usize) -> Result<(), Strin
     Ok(())
 }
 
-/// The cursor calls on an arena that all of them refuse with this number, or whose bound is of no kind: first and seek stand past the last
-/// pair, last before the first, a step leaves the words; a cursor of another length comes before that, and stays.
-fn cursors(w: &[u64], number: u64) -> Result<(), String> {
-    type Call = fn(&[u64], u64, &mut [u64]) -> ours::Found;
-    let first = |stand| vec![5, stand, 0, 0];
-    let calls: [(Call, Vec<u64>); 6] = [
-        (ours::first, first(2)),
-        (ours::last, first(0)),
-        (|a, n, c| ours::seek(a, n, (1, 7), c), first(2)),
-        (|a, n, c| ours::seek(a, n, (3, 0), c), first(2)),
-        (ours::next, vec![5, 1, 9, 9]),
-        (ours::previous, vec![5, 1, 9, 9]),
-    ];
-    for (i, (call, left)) in calls.into_iter().enumerate() {
-        if number == 5 && i != 3 {
-            continue;
-        }
-        let mut cursor = vec![5, 1, 9, 9];
-        let said = call(w, 5, &mut cursor);
-        if said != (number, 0, 0) || cursor != left {
-            return Err(format!("cursor call {i} says {said:?} and leaves {cursor:?}"));
-        }
-        for long in [0, 3, 5] {
-            let mut cursor = vec![9; long];
-            let said = call(w, 5, &mut cursor);
-            if said != (7, 0, 0) || cursor != vec![9; long] {
-                return Err(format!("cursor call {i} on {long} words says {said:?} and leaves {cursor:?}"));
-            }
-        }
-    }
-    Ok(())
-}
-
 /// Every call on words that may be no arena; `image` is one of the same length.
 fn one(totals: &mut Totals, w: &[u64], image: &[u64]) -> Result<(), String> {
     let good = words::well_formed(w);
@@ -421,7 +385,8 @@ fn one(totals: &mut Totals, w: &[u64], image: &[u64]) -> Result<(), String> {
             return Err(format!("count and rank say {said:?}, the pair at a rank {at:?}"));
         }
     }
-    cursors(w, 4)?;
+    two(w)?;
+    cursor(w, 4)?;
     for word in [0, 1] {
         let number = ours::restore(&mut a, image, word);
         if number != 4 || a != w {
@@ -432,6 +397,76 @@ fn one(totals: &mut Totals, w: &[u64], image: &[u64]) -> Result<(), String> {
             let number = ours::restore(&mut whole, w, word);
             if number != 8 || whole != image {
                 return Err(format!("restore of it says {number}"));
+            }
+        }
+    }
+    Ok(())
+}
+
+/// A cut of words that are no arena, and joins with them on either side; the second slice's length comes before them in a cut, the third's after
+/// them in a join.
+fn two(w: &[u64]) -> Result<(), String> {
+    let mut a = w.to_vec();
+    for (long, wanted) in [(48, 7), (49, 4), (50, 7)] {
+        let mut upper = vec![7; long];
+        let number = ours::cut(&mut a, &mut upper, 0);
+        if number != wanted || a != w || upper.iter().any(|x| *x != 7) {
+            return Err(format!("a cut into {long} words says {number}"));
+        }
+    }
+    for long in [0, 100] {
+        let (mut whole, mut run) = (words::formatted(1), vec![7; long]);
+        let number = [ours::join(&mut a, &mut whole, &mut run), ours::join(&mut whole, &mut a, &mut run)];
+        if number != [4; 2] || a != w || whole != words::formatted(1) || run.iter().any(|x| *x != 7) {
+            return Err(format!("joins with it say {number:?}"));
+        }
+    }
+    Ok(())
+}
+
+/// Cursor calls that are refused with this number, 4, or with 7 for a length: first and seek are left past the last pair, last before the first, a
+/// step leaves the cursor.
+fn cursor(w: &[u64], number: u64) -> Result<(), String> {
+    for long in [0, 3, 4, 5] {
+        let wanted = if long == 4 { number } else { 7 };
+        let stand = |stand: u64| if long == 4 { vec![3, stand, 0, 0] } else { vec![9; long] };
+        // a kind of bound that is none comes after a bad arena
+        for (call, left) in [(0, stand(2)), (1, stand(0)), (2, stand(2)), (3, stand(2)), (4, vec![9; long]), (5, vec![9; long])] {
+            let mut at = vec![9; long];
+            let said = match call {
+                0 => ours::first(w, 3, &mut at),
+                1 => ours::last(w, 3, &mut at),
+                2 => ours::seek(w, 3, (0, 0), &mut at),
+                3 => ours::seek(w, 3, (3, 0), &mut at),
+                4 => ours::next(w, 3, &mut at),
+                _ => ours::previous(w, 3, &mut at),
+            };
+            if wanted != 0 && (said != (wanted, 0, 0) || at != left) {
+                return Err(format!("cursor call {call} with {long} words says {said:?}, and leaves {at:?}"));
+            }
+        }
+    }
+    Ok(())
+}
+
+/// Steps from every place of an arena, and from beside them: 9 by request (i)'s rule, and then the cursor stays.
+fn cursors(totals: &mut Totals, whole: &[u64]) -> Result<(), String> {
+    cursor(whole, 0)?;
+    let count = whole[words::NODES];
+    for at in 0..=4 {
+        for node in (0..count + 2).chain([words::NONE, u64::MAX]) {
+            for place in (0..13).chain([u64::MAX]) {
+                let pair = || node < count && words::node(whole, node)[words::STATE] != 0 && place < words::node(whole, node)[words::LEN];
+                let stale = at > 2 || (at == 1 && !pair());
+                for step in [ours::next, ours::previous] {
+                    let mut cursor = [3, at, node, place];
+                    let said = step(whole, 3, &mut cursor);
+                    totals.strays += 1;
+                    let right = if stale { said == (9, 0, 0) && cursor == [3, at, node, place] } else { said.0 == 1 || said.0 == 2 };
+                    if !right {
+                        return Err(format!("a step from {at} {node} {place}: {said:?}, then {cursor:?}"));
+                    }
+                }
             }
         }
     }

@@ -11,6 +11,7 @@ pub const MOST: usize = 11;
 /// Nodes of the largest arena.
 pub const LARGEST: usize = 1_048_575;
 
+pub const NODES: usize = 1;
 pub const ROOT: usize = 3;
 pub const HEIGHT: usize = 4;
 pub const PAIRS: usize = 5;

@@ -4,9 +4,9 @@
 //!     cargo run --release --example broker [FOLDER]      four files are made there, else in a new folder that is removed again
 //!
 //! Standard output is the same in every run (examples/c/broker.txt); how many arenas were torn goes to standard error.
-#![allow(clippy::arithmetic_side_effects)]
+#![allow(clippy::arithmetic_side_effects, reason = "its counters stay far below 2^64")]
 
-use cuffgarnet::{Error, Index, Order, Words};
+use cuffgarnet::{Index, Order, WordsMut};
 use std::error::Error as Any;
 use std::ffi::{c_int, c_long, c_void};
 use std::fs::{self, File, OpenOptions};
@@ -38,19 +38,13 @@ struct Mapped {
 impl Mapped {
     fn open(path: &Path) -> Result<Self, Box<dyn Any>> {
         let file = OpenOptions::new().read(true).write(true).open(path)?;
-        let words = (file.metadata()?.len() / 8) as usize;
+        let words = usize::try_from(file.metadata()?.len() / 8)?;
         // SAFETY: a new shared mapping of an open file, to read and write (3, 1); its address is looked at before it is used.
         let at = unsafe { mmap(std::ptr::null_mut(), 8 * words, 3, 1, file.as_raw_fd(), 0) };
         match at as isize {
             -1 => Err(std::io::Error::last_os_error().into()),
             _ => Ok(Mapped { at, words }),
         }
-    }
-
-    fn words(&mut self) -> &mut [u64] {
-        // SAFETY: the mapping is as long as that and aligned to a page. One process writes at a time: the parent waits for the
-        // child's end before it takes these words, and nobody shortens the file.
-        unsafe { std::slice::from_raw_parts_mut(self.at.cast(), self.words) }
     }
 
     /// The mark's word, while another process writes.
@@ -65,6 +59,20 @@ impl Mapped {
             0 => Ok(()),
             _ => Err(std::io::Error::last_os_error()),
         }
+    }
+}
+
+// SAFETY, of both: the mapping is as long as that and aligned to a page. One process writes at a time: the parent waits for the child's
+// end before it takes these words, and nobody shortens the file.
+impl AsRef<[u64]> for Mapped {
+    fn as_ref(&self) -> &[u64] {
+        unsafe { std::slice::from_raw_parts(self.at.cast(), self.words) }
+    }
+}
+
+impl AsMut<[u64]> for Mapped {
+    fn as_mut(&mut self) -> &mut [u64] {
+        unsafe { std::slice::from_raw_parts_mut(self.at.cast(), self.words) }
     }
 }
 
@@ -102,20 +110,16 @@ fn read(path: &Path) -> Result<Vec<u64>, Box<dyn Any>> {
     Ok(bytes.chunks_exact(8).filter_map(|b| Some(u64::from_le_bytes(b.try_into().ok()?))).collect())
 }
 
-/// The next counter: above every one that was ever put.
-fn next_counter(index: &Index<&mut [u64]>) -> Result<u64, Box<dyn Any>> {
-    match index.mark()? {
-        None => Ok(1),
-        Some(mark) => Ok(mark.checked_add(1).ok_or("all counters are spent")?),
-    }
+/// The next counter: above every one that was ever put. The first is 1.
+fn next_counter<W: WordsMut>(index: &Index<W>) -> Result<u64, Box<dyn Any>> {
+    Ok(index.next_counter()?.ok_or("all counters are spent")?.max(1))
 }
 
 /// The broker: sends batch after batch, until it is killed.
 fn work(files: &Files) -> Result<(), Box<dyn Any>> {
-    let mut mapped = Mapped::open(&files.arena)?;
+    let mut index = Index::open(Mapped::open(&files.arena)?)?;
     let mut used = OpenOptions::new().create(true).append(true).open(&files.used)?;
     for turn in 0_u64.. {
-        let mut index = Index::open(mapped.words())?;
         let first = next_counter(&index)?;
         let last = first.checked_add(BATCH - 1).ok_or("all counters are spent")?;
         replace(&files.saved, &[last])?; // 1. the second place first: no message passes this counter
@@ -131,19 +135,18 @@ fn work(files: &Files) -> Result<(), Box<dyn Any>> {
         for outcome in index.apply(&orders)? {
             outcome?; // 2. all orders, behind one check
         }
-        mapped.sync()?; // 3. made durable
-        let counters: Vec<u8> = (first..=last).flat_map(|counter| counter.to_le_bytes()).collect();
+        index.get_ref().sync()?; // 3. made durable
+        let counters: Vec<u8> = (first..=last).flat_map(u64::to_le_bytes).collect();
         used.write_all(&counters)?; // 4. only now messages are encrypted under these counters
         if turn % 2 == 0 {
-            let image = mapped.words().to_vec();
-            replace(&files.image, &image)?;
+            replace(&files.image, index.words())?;
         }
     }
     Ok(())
 }
 
 /// Raises the mark to the saved counter, if it is lower.
-fn raise<W: Words>(index: &mut Index<W>, files: &Files) -> Result<(), Box<dyn Any>> {
+fn raise<W: WordsMut>(index: &mut Index<W>, files: &Files) -> Result<(), Box<dyn Any>> {
     if let Some(saved) = read(&files.saved)?.first() {
         if index.mark()? < Some(*saved) {
             index.reserve(*saved)?; // raises the mark
@@ -167,17 +170,13 @@ fn recover(files: &Files) -> Result<(), Box<dyn Any>> {
 /// whether the arena was refused. One that is still well-formed is taken as it is; docs/OPERATING.md says what that means for its
 /// pairs.
 fn reopen(files: &Files) -> Result<(u64, bool), Box<dyn Any>> {
-    let refused = match files.arena.exists() {
-        true => Index::open(Mapped::open(&files.arena)?.words()).err(),
-        false => Some(Error::BadArena),
-    };
-    if refused.is_some() {
+    let refused = !files.arena.exists() || Index::open(Mapped::open(&files.arena)?).is_err();
+    if refused {
         recover(files)?;
     }
-    let mut mapped = Mapped::open(&files.arena)?;
-    let mut index = Index::open(mapped.words())?;
+    let mut index = Index::open(Mapped::open(&files.arena)?)?;
     raise(&mut index, files)?;
-    Ok((next_counter(&index)?, refused.is_some()))
+    Ok((next_counter(&index)?, refused))
 }
 
 /// Starts a broker and kills it once its mark has reached a counter, in the middle of a batch.
@@ -195,14 +194,14 @@ fn kill_at(files: &Files, counter: u64) -> Result<(), Box<dyn Any>> {
     while watched.mark() < counter {
         turn = turn.wrapping_add(1);
         // SAFETY: the child's own number; 1 is WNOHANG.
-        if turn % 4096 == 0 && unsafe { waitpid(child, &mut status, 1) } == child {
+        if turn % 4096 == 0 && unsafe { waitpid(child, &raw mut status, 1) } == child {
             return Err("the broker ended by itself".into());
         }
     }
     // SAFETY: the child's own number, which nobody has waited for yet; 9 is SIGKILL.
     unsafe {
         kill(child, 9);
-        waitpid(child, &mut status, 0);
+        waitpid(child, &raw mut status, 0);
     }
     match status {
         9 => Ok(()),

@@ -2,16 +2,11 @@
 //! goes on, and an operator brings the snapshot back: the saved pairs are back, and the next counter is still a fresh one,
 //! because the arena that is restored onto has kept its mark. An arena that is lost has not: see the example `broker`.
 
-use cuffgarnet::{Error, Index};
-
-/// The next counter: above every key that was ever put. `None` once all are spent.
-fn next_counter(index: &Index) -> Result<Option<u64>, Error> {
-    Ok(index.mark()?.map_or(Some(1), |mark| mark.checked_add(1)))
-}
+use cuffgarnet::Index;
 
 /// Sends a message that lies in a slot: its counter is spent once it is in the index.
 fn send(index: &mut Index, slot: u64) -> Result<u64, Box<dyn std::error::Error>> {
-    let counter = next_counter(index)?.ok_or("all counters are spent")?;
+    let counter = index.next_counter()?.ok_or("all counters are spent")?.max(1); // the first is 1
     index.insert(counter, slot)?;
     Ok(counter)
 }
@@ -33,7 +28,7 @@ fn main() -> Result<(), Box<dyn std::error::Error>> {
     println!("restore: {}", refused.map_or_else(|why| why.to_string(), |()| "done".to_string()));
     index.restore_older(&image)?;
     println!("restored: {} pairs, mark {:?}", index.len()?, index.mark()?);
-    for pair in index.iter() {
+    for pair in &index {
         let (counter, slot) = pair?;
         println!("    {counter} -> {slot}");
     }

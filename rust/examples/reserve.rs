@@ -34,7 +34,7 @@ fn store(file: &Path, index: &Index) -> Result<(), Box<Any>> {
 /// Hands out the next counter, and spends it.
 fn hand_out(file: &Path) -> Result<u64, Box<Any>> {
     let mut index = load(file)?;
-    let counter = index.mark()?.map_or(Some(1), |mark| mark.checked_add(1)).ok_or("all counters are spent")?;
+    let counter = index.next_counter()?.ok_or("all counters are spent")?.max(1); // the first is 1
     index.reserve(counter)?;
     store(file, &index)?;
     Ok(counter)
@@ -53,7 +53,7 @@ fn main() -> Result<(), Box<Any>> {
     }
     let mut status = 0;
     // SAFETY: `status` is a word of this function's own.
-    assert!(child > 0 && unsafe { waitpid(child, &mut status, 0) } == child);
+    assert!(child > 0 && unsafe { waitpid(child, &raw mut status, 0) } == child);
 
     let mut index = load(&file)?;
     assert_eq!((index.len()?, index.mark()?), (0, Some(1))); // no pair, and the counter is spent

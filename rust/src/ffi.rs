@@ -138,19 +138,19 @@ pub fn check(arena: &[u64]) -> u64 {
 
 pub fn get(arena: &[u64], key: u64) -> Said {
     let mut second = UNWRITTEN;
-    let number = unsafe { cuffgarnet_get(arena.as_ptr(), arena.len() as u64, key, &mut second) };
+    let number = unsafe { cuffgarnet_get(arena.as_ptr(), arena.len() as u64, key, &raw mut second) };
     Said { number, second }
 }
 
 pub fn put(arena: &mut [u64], key: u64, value: u64) -> Said {
     let mut second = UNWRITTEN;
-    let number = unsafe { cuffgarnet_put(arena.as_mut_ptr(), arena.len() as u64, key, value, &mut second) };
+    let number = unsafe { cuffgarnet_put(arena.as_mut_ptr(), arena.len() as u64, key, value, &raw mut second) };
     Said { number, second }
 }
 
 pub fn delete(arena: &mut [u64], key: u64) -> Said {
     let mut second = UNWRITTEN;
-    let number = unsafe { cuffgarnet_delete(arena.as_mut_ptr(), arena.len() as u64, key, &mut second) };
+    let number = unsafe { cuffgarnet_delete(arena.as_mut_ptr(), arena.len() as u64, key, &raw mut second) };
     Said { number, second }
 }
 
@@ -160,7 +160,7 @@ pub fn reserve(arena: &mut [u64], key: u64) -> u64 {
 
 pub fn order(arena: &mut [u64], code: u64, key: u64, value: u64) -> Said {
     let mut second = UNWRITTEN;
-    let number = unsafe { cuffgarnet_order(arena.as_mut_ptr(), arena.len() as u64, code, key, value, &mut second) };
+    let number = unsafe { cuffgarnet_order(arena.as_mut_ptr(), arena.len() as u64, code, key, value, &raw mut second) };
     Said { number, second }
 }
 
@@ -177,8 +177,8 @@ pub fn list(arena: &[u64], start: (u64, u64), end: (u64, u64), out: &mut [u64]) 
             end.1,
             out.as_mut_ptr(),
             out.len() as u64,
-            &mut written,
-            &mut more,
+            &raw mut written,
+            &raw mut more,
         )
     };
     Told { number, written, more }
@@ -186,21 +186,22 @@ pub fn list(arena: &[u64], start: (u64, u64), end: (u64, u64), out: &mut [u64]) 
 
 pub fn rank(arena: &[u64], key: u64) -> Said {
     let mut second = UNWRITTEN;
-    let number = unsafe { cuffgarnet_rank(arena.as_ptr(), arena.len() as u64, key, &mut second) };
+    let number = unsafe { cuffgarnet_rank(arena.as_ptr(), arena.len() as u64, key, &raw mut second) };
     Said { number, second }
 }
 
 pub fn count(arena: &[u64], start: (u64, u64), end: (u64, u64)) -> Said {
     let mut second = UNWRITTEN;
-    let number =
-        unsafe { cuffgarnet_count(arena.as_ptr(), arena.len() as u64, start.0, start.1, end.0, end.1, &mut second) };
+    let number = unsafe {
+        cuffgarnet_count(arena.as_ptr(), arena.len() as u64, start.0, start.1, end.0, end.1, &raw mut second)
+    };
     Said { number, second }
 }
 
 pub fn at(arena: &[u64], rank: u64) -> Picked {
     let mut key = UNWRITTEN;
     let mut value = UNWRITTEN;
-    let number = unsafe { cuffgarnet_at(arena.as_ptr(), arena.len() as u64, rank, &mut key, &mut value) };
+    let number = unsafe { cuffgarnet_at(arena.as_ptr(), arena.len() as u64, rank, &raw mut key, &raw mut value) };
     Picked { number, key, value }
 }
 
@@ -212,7 +213,7 @@ fn walk(call: Walk, arena: &[u64], changes: u64, cursor: &mut [u64]) -> Picked {
     let mut value = UNWRITTEN;
     let (arena_n, cursor_n) = (arena.len() as u64, cursor.len() as u64);
     let number =
-        unsafe { call(arena.as_ptr(), arena_n, changes, cursor.as_mut_ptr(), cursor_n, &mut key, &mut value) };
+        unsafe { call(arena.as_ptr(), arena_n, changes, cursor.as_mut_ptr(), cursor_n, &raw mut key, &raw mut value) };
     Picked { number, key, value }
 }
 
@@ -244,8 +245,8 @@ pub fn seek(arena: &[u64], changes: u64, start: (u64, u64), cursor: &mut [u64]) 
             start.1,
             cursor.as_mut_ptr(),
             cursor.len() as u64,
-            &mut key,
-            &mut value,
+            &raw mut key,
+            &raw mut value,
         )
     };
     Picked { number, key, value }

@@ -18,14 +18,14 @@
 //!
 //! # What a call costs
 //!
-//! The words may come from anywhere, so **every call but formatting first checks the whole arena**: whatever the key, it
+//! The words may come from anywhere, so **every call but formatting and loading first checks the whole arena**: whatever the key, it
 //! reads each node once. On the x86-64 machine of docs/SPEED.md that took 18 nanoseconds a full node and 6 a free one (of format 1,
 //! a word shorter) while the arena is in the caches, and about three times as long where it is not. [`Index::apply`] checks once for a whole batch of
 //! orders: use it wherever there is more than one thing to do. docs/OPERATING.md has microseconds a message by batch size.
 //!
-//! Behind the check a call on one key goes one way down the tree, of at most seven nodes. So do [`Index::rank`] and
+//! Behind the check a call on one key goes one way down the tree, of at most nine nodes. So do [`Index::rank`] and
 //! [`Index::nth`], and [`Index::count`] goes two, however many pairs they count or pass: each node knows how many pairs are below it.
-//! A listing walks over the pairs that it writes.
+//! A listing walks over the pairs that it writes. Each step of a [`Cursor`] is a call, and so a check, of its own: who reads much lists pages.
 //!
 //! Pairs that are in order already, as after a migration, are not put one by one: [`Index::load`] fills the nodes from the left, each to
 //! its 11 pairs, and checks nothing but the run. So does [`Index::append`] with the pairs of two indexes, behind the checks of both.
@@ -45,120 +45,119 @@
 //!
 //! # Mapped files
 //!
-//! [`Index::open`] takes a `&mut [u64]`. Words of a mapped file are fine as long as nobody else writes to them, or shortens
-//! the file, while the index borrows them; that promise is made where the mapping is turned into a slice. The example `broker`
-//! does it.
+//! [`Index::open`] takes any [`Words`]: a `Vec`, an array, a `&mut [u64]`, or a type of your own for a mapped file that is
+//! `AsRef<[u64]>` and `AsMut<[u64]>`. Over a `&[u64]` it makes an index that can only be read. Words of a mapped file are fine as long
+//! as nobody else writes to them, or shortens the file, while the index has them; that promise is made where the mapping is turned into a
+//! slice. The example `broker` does it.
 //!
+//! # Features
+//!
+//! The crate is `no_std`. The feature `alloc`, which is on by default, has all that needs memory of its own: `with_nodes`, `upgraded`,
+//! `load`, `loaded`, `append`, `range`, `iter`, `apply`, `extend`, `remove_range` and `snapshot`. Without it an index stands on words that
+//! you lend, and `load_words`, `append_words`, `range_into` and `apply_words` do the same work in buffers of yours.
 
-#![deny(missing_docs)]
+#![no_std]
+#![cfg_attr(
+    not(feature = "alloc"),
+    allow(rustdoc::broken_intra_doc_links, reason = "they lead to what is not there then")
+)]
 
 #[cfg(not(all(target_arch = "x86_64", target_os = "linux")))]
 compile_error!("the static library that `rt` writes is for x86-64 Linux");
+
+#[cfg(feature = "alloc")]
+extern crate alloc;
 
 mod cursor;
 mod error;
 mod ffi;
 mod order;
+mod pages;
 mod range;
+mod runs;
+mod sizes;
+mod stats;
 
 pub use cursor::{Cursor, Moved};
-pub use error::Error;
+pub use error::{Error, Refused, Size};
 pub use order::{Order, Outcome};
-pub use range::{Listed, Range};
+pub use range::Listed;
+#[cfg(feature = "alloc")]
+pub use range::Range;
+pub use sizes::{nodes_for, nodes_for_load, nodes_for_rising, words_for};
+pub use stats::Stats;
 
-use std::borrow::Borrow;
-use std::ops::RangeBounds;
+#[cfg(feature = "alloc")]
+use alloc::vec::Vec;
+use core::ops::RangeBounds;
+use range::bounds;
 
-/// Words before the first node.
-const HEADER: usize = 10;
+#[cfg(doctest)]
+#[doc = include_str!("../README.md")]
+struct Readme;
 
-/// Words of a node. In format 1 it was one less.
-const NODE: usize = 39;
-
-/// Places of the header's words.
-const NODES: usize = 1;
-const PAIRS: usize = 5;
-const FREE: usize = 7;
-const SEEN: usize = 8;
-const MARK: usize = 9;
-
-mod sealed {
-    pub trait Sealed {}
-    impl Sealed for Vec<u64> {}
-    impl Sealed for Box<[u64]> {}
-    impl Sealed for &mut [u64] {}
-}
-
-/// Words that an [`Index`] can stand on: owned ones, `Vec<u64>` or `Box<[u64]>`, or a borrowed `&mut [u64]`.
-pub trait Words: sealed::Sealed {
-    /// The words.
-    fn words(&self) -> &[u64];
-    /// The words, to be changed. Their number stays.
-    fn words_mut(&mut self) -> &mut [u64];
-}
-
-impl Words for Vec<u64> {
-    fn words(&self) -> &[u64] {
-        self
-    }
-    fn words_mut(&mut self) -> &mut [u64] {
-        self
-    }
-}
-
-impl Words for Box<[u64]> {
-    fn words(&self) -> &[u64] {
-        self
-    }
-    fn words_mut(&mut self) -> &mut [u64] {
-        self
-    }
-}
-
-impl Words for &mut [u64] {
-    fn words(&self) -> &[u64] {
-        self
-    }
-    fn words_mut(&mut self) -> &mut [u64] {
-        self
-    }
-}
-
-/// How many words an arena of so many nodes has; `None` if there is no such arena (nodes are 1 to 1,048,575).
+/// Words that an [`Index`] can be read from: all that is `AsRef<[u64]>`.
 ///
 /// ```
-/// assert_eq!(cuffgarnet::words_for(2), Some(88));
-/// assert_eq!(cuffgarnet::words_for(0), None);
-/// assert_eq!(cuffgarnet::words_for(1_048_576), None);
+/// use cuffgarnet::{Error, Index, Words};
+/// fn oldest<W: Words>(index: &Index<W>) -> Result<Option<u64>, Error> {
+///     Ok(index.first_key_value()?.map(|(key, _)| key))
+/// }
+/// let mut file = Index::with_nodes(4)?.into_words();
+/// Index::open(&mut file)?.insert(7, 70)?; // a &mut Vec
+/// let read_only = Index::open(&file[..])?; // a &[u64]: it has no `insert`
+/// assert_eq!(oldest(&read_only)?, Some(7));
+/// # Ok::<(), Error>(())
 /// ```
-pub fn words_for(nodes: usize) -> Option<usize> {
-    if nodes == 0 || nodes > 1_048_575 {
-        return None;
-    }
-    nodes.checked_mul(NODE)?.checked_add(HEADER)
-}
+pub trait Words: AsRef<[u64]> {}
 
-/// How many nodes a load of so many pairs takes. No tree of so many pairs has fewer.
+impl<W: AsRef<[u64]> + ?Sized> Words for W {}
+
+/// Words that an [`Index`] can be changed in: all that is `AsMut<[u64]>` as well.
 ///
 /// ```
-/// assert_eq!([0, 11, 12, 144, 1_000_000].map(cuffgarnet::nodes_for), [1, 1, 3, 16, 90_913]);
+/// use cuffgarnet::{words_for, Error, Index, WordsMut};
+///
+/// struct Mapped(Vec<u64>); // in earnest, a mapped file
+/// impl AsRef<[u64]> for Mapped {
+///     fn as_ref(&self) -> &[u64] {
+///         &self.0
+///     }
+/// }
+/// impl AsMut<[u64]> for Mapped {
+///     fn as_mut(&mut self) -> &mut [u64] {
+///         &mut self.0
+///     }
+/// }
+///
+/// fn spend<W: WordsMut>(index: &mut Index<W>) -> Result<Option<u64>, Error> {
+///     let Some(counter) = index.next_counter()? else { return Ok(None) };
+///     index.reserve(counter)?;
+///     Ok(Some(counter))
+/// }
+/// let mut index = Index::format(Mapped(vec![0; 88]))?;
+/// assert_eq!((spend(&mut index)?, spend(&mut index)?), (Some(0), Some(1)));
+/// # Ok::<(), Error>(())
 /// ```
-pub fn nodes_for(pairs: usize) -> usize {
-    let mut left = pairs / 12;
-    let mut nodes = left.saturating_add(1);
-    while left > 0 {
-        left /= 12;
-        nodes = nodes.saturating_add(left).saturating_add(1);
-    }
-    nodes
-}
+pub trait WordsMut: Words + AsMut<[u64]> {}
+
+impl<W: Words + AsMut<[u64]> + ?Sized> WordsMut for W {}
 
 /// The index. See the [crate's documentation](crate) for what a call costs.
-#[derive(Clone, Debug)]
-pub struct Index<W: Words = Vec<u64>> {
+///
+/// ```
+/// use cuffgarnet::{Error, Index};
+/// let mut index = Index::with_nodes(64)?;
+/// index.insert(5, 50)?;
+/// assert_eq!(format!("{index:?}"), "Index { pairs: 1, nodes: 64, free: 63, height: 0, mark: Some(5) }");
+/// # Ok::<(), Error>(())
+/// ```
+#[derive(Clone)]
+pub struct Index<#[cfg(feature = "alloc")] W = Vec<u64>, #[cfg(not(feature = "alloc"))] W> {
     words: W,
 }
 
+#[cfg(feature = "alloc")]
 impl Index {
     /// An empty index with so many nodes, 1 to 1,048,575, in words of its own. A node holds up to 11 pairs, and at least 5
     /// but for the root.
@@ -167,13 +166,13 @@ impl Index {
     /// [`Error::BadSize`] for any other number.
     ///
     /// ```
-    /// use cuffgarnet::{Error, Index};
+    /// use cuffgarnet::{Error, Index, Size};
     /// assert!(Index::with_nodes(1).is_ok());
-    /// assert_eq!(Index::with_nodes(0).err(), Some(Error::BadSize));
+    /// assert_eq!(Index::with_nodes(0).err(), Some(Error::BadSize(Size::Nodes { given: 0 })));
     /// ```
     pub fn with_nodes(nodes: usize) -> Result<Self, Error> {
-        let long = words_for(nodes).ok_or(Error::BadSize)?;
-        Self::format(vec![0; long])
+        let long = words_for(nodes).ok_or(Error::BadSize(Size::Nodes { given: nodes }))?;
+        Ok(Self::format(alloc::vec![0; long])?)
     }
 
     /// Writes an arena of format 1 into words of its own, in format 2: see [`upgrade`](Index::upgrade).
@@ -189,127 +188,52 @@ impl Index {
     /// ```
     pub fn upgraded(old: &[u64]) -> Result<Self, Error> {
         // what an arena says of its nodes is not believed here: with a wrong number the call refuses the old words
-        let nodes = old.get(NODES).and_then(|nodes| usize::try_from(*nodes).ok());
-        let long = nodes.and_then(words_for).ok_or(Error::BadArena)?;
-        Self::upgrade(old, vec![0; long])
+        let long = words_for(error::long(stats::word(old, stats::NODES))).ok_or(Error::BadArena)?;
+        Ok(Self::upgrade(old, alloc::vec![0; long])?)
+    }
+}
+
+impl<W> Index<W> {
+    /// An index on words that a call accepted; refused ones come back.
+    fn made(accepted: Result<(), Error>, words: W) -> Result<Self, Refused<W>> {
+        match accepted {
+            Ok(()) => Ok(Index { words }),
+            Err(error) => Err(Refused::new(error, words)),
+        }
     }
 
-    /// An index with so many nodes, in words of its own, loaded with pairs that are in order already: see [`load`](Index::load).
-    ///
-    /// # Errors
-    /// [`Error::BadSize`] if that is no number of nodes, [`Error::NotRising`], [`Error::NoRoom`].
+    /// Gives the words back.
     ///
     /// ```
-    /// use cuffgarnet::{nodes_for, Error, Index};
-    /// use std::collections::BTreeMap;
-    /// let old = BTreeMap::from([(3, 30), (1, 10), (2, 20)]);
-    /// let index = Index::loaded(old, nodes_for(3))?;
-    /// assert_eq!((index.len()?, index.get(2)?, index.mark()?), (3, Some(20), Some(3)));
+    /// use cuffgarnet::{Error, Index};
+    /// let words: Vec<u64> = Index::with_nodes(2)?.into_words();
+    /// assert_eq!(words.len(), 88);
     /// # Ok::<(), Error>(())
     /// ```
-    pub fn loaded<P: Borrow<(u64, u64)>>(pairs: impl IntoIterator<Item = P>, nodes: usize) -> Result<Self, Error> {
-        let long = words_for(nodes).ok_or(Error::BadSize)?;
-        Self::load(pairs, vec![0; long])
+    pub fn into_words(self) -> W {
+        self.words
+    }
+
+    /// What the index stands on, as it was given: for a mapped file's own calls, as a sync.
+    ///
+    /// ```
+    /// use cuffgarnet::{Error, Index};
+    /// let index = Index::with_nodes(2)?;
+    /// let words: &Vec<u64> = index.get_ref();
+    /// assert_eq!(words.len(), 88);
+    /// # Ok::<(), Error>(())
+    /// ```
+    pub fn get_ref(&self) -> &W {
+        &self.words
     }
 }
 
 impl<W: Words> Index<W> {
-    /// Formats words as an empty index, whatever they held, and forgets the mark: who formats a lost arena anew reserves the saved
-    /// mark first.
-    ///
-    /// # Errors
-    /// [`Error::BadSize`] if their number is not 10 + 39 N for an N of 1 to 1,048,575. No word has changed then.
-    ///
-    /// ```
-    /// use cuffgarnet::{Error, Index};
-    /// let mut lent = [7; 88];
-    /// let mut index = Index::format(&mut lent[..])?;
-    /// index.insert(1, 10)?;
-    /// assert_eq!(lent[5], 1); // one pair, in the words that were lent
-    /// # Ok::<(), Error>(())
-    /// ```
-    pub fn format(mut words: W) -> Result<Self, Error> {
-        error::done(ffi::format(words.words_mut()))?;
-        Ok(Index { words })
-    }
-
-    /// Writes an arena of format 1 into these words, in format 2: the same nodes at the same numbers, the same pairs, the same mark,
-    /// and in each node how many pairs are below it. What the words held before does not matter, and a mark in it is forgotten. The
-    /// old words are only read. It costs a check of the old words and one pass over both. [`upgraded`](Index::upgraded) does
-    /// the same into words of its own.
-    ///
-    /// # Errors
-    /// [`Error::BadArena`] if the old words are not a well-formed arena of format 1 (one of format 2 is none, and one whose free
-    /// nodes are not chained in rising order is none either); then [`Error::BadSize`] if there are not 10 + 39 N words for as
-    /// many nodes as the old arena has. No word has changed then.
-    ///
-    /// ```
-    /// use cuffgarnet::{words_for, Error, Index};
-    /// let mut old = vec![0; 10 + 38]; // an arena of format 1 with one node and no pair, which has seen the key 7
-    /// old[..10].copy_from_slice(&[1, 1, 10, 0, 0, 0, 4_294_967_295, 0, 1, 7]);
-    /// old[10..13].copy_from_slice(&[1, 0, 4_294_967_295]);
-    /// assert_eq!(Index::open(old.clone()).err(), Some(Error::BadArena)); // as by every other call
-    /// let mut file = vec![0; words_for(1).ok_or(Error::BadSize)?]; // or the words of a new mapped file
-    /// let mut index = Index::upgrade(&old, &mut file[..])?;
-    /// assert_eq!((index.len()?, index.mark()?), (0, Some(7)));
-    /// index.insert(8, 80)?;
-    /// assert_eq!(Index::upgrade(&file.clone(), file).err(), Some(Error::BadArena)); // it is of format 2 already
-    /// # Ok::<(), Error>(())
-    /// ```
-    pub fn upgrade(old: &[u64], mut words: W) -> Result<Self, Error> {
-        error::done(ffi::upgrade(old, words.words_mut()))?;
-        Ok(Index { words })
-    }
-
-    /// Loads pairs that are in order already, from a slice or from anything that hands them out, into these words. What the words held
-    /// before does not matter, and a mark in it is forgotten: the mark is then the last key, or none if there is no pair. It takes
-    /// [`nodes_for`] the number of pairs, and all but the last node of each level are full, so that a few insertions may follow in any
-    /// place, and many at the end. The pairs are first written out as words; [`load_words`](Index::load_words) takes those.
-    ///
-    /// # Errors
-    /// [`Error::BadSize`] if there are not 10 + 39 N words for an N of 1 to 1,048,575; then [`Error::NotRising`] if the keys do not
-    /// rise strictly; then [`Error::NoRoom`] if the nodes are too few. No word has changed then.
-    ///
-    /// ```
-    /// use cuffgarnet::{nodes_for, words_for, Error, Index};
-    /// let pairs = [(1, 10), (2, 20), (5, 50)];
-    /// let mut file = vec![7; words_for(64).ok_or(Error::BadSize)?]; // or the words of a new mapped file
-    /// let mut index = Index::load(&pairs, &mut file[..])?;
-    /// assert_eq!((index.len()?, index.get(5)?, index.mark()?), (3, Some(50), Some(5)));
-    /// index.insert(4, 40)?;
-    /// let squares = Index::load((0..100).map(|k| (k, k * k)), file)?; // the same words again
-    /// assert_eq!((squares.get(9)?, squares.free_nodes()?), (Some(81), 64 - nodes_for(100)));
-    /// assert_eq!(Index::loaded([(2, 20), (2, 21)], 1).err(), Some(Error::NotRising));
-    /// assert_eq!(Index::loaded((0..12).map(|k| (k, 0)), 2).err(), Some(Error::NoRoom));
-    /// # Ok::<(), Error>(())
-    /// ```
-    pub fn load<P: Borrow<(u64, u64)>>(pairs: impl IntoIterator<Item = P>, words: W) -> Result<Self, Error> {
-        let run: Vec<u64> = pairs.into_iter().flat_map(|pair| <[u64; 2]>::from(*pair.borrow())).collect();
-        Self::load_words(&run, words)
-    }
-
-    /// The same from plain words, key and value in turn, with no allocation.
-    ///
-    /// # Errors
-    /// As [`load`](Index::load), and [`Error::BadSize`] for an odd number of words in the run.
-    ///
-    /// ```
-    /// use cuffgarnet::{Error, Index};
-    /// let mut words = [0; 49];
-    /// assert_eq!(Index::load_words(&[1, 10, 2, 20], &mut words[..])?.iter().count(), 2);
-    /// assert_eq!(Index::load_words(&[1, 10, 2], &mut words[..]).err(), Some(Error::BadSize));
-    /// # Ok::<(), Error>(())
-    /// ```
-    pub fn load_words(run: &[u64], mut words: W) -> Result<Self, Error> {
-        error::done(ffi::load(words.words_mut(), run))?;
-        Ok(Index { words })
-    }
-
-    /// An index on words that were formatted and filled earlier, as a mapped file's. Values, and keys within their gaps, are
+    /// An index on words that were formatted and filled earlier, as a mapped file's. Over a `&[u64]` it is one that can only be read. Values, and keys within their gaps, are
     /// taken as they are: see the [crate's documentation](crate).
     ///
     /// # Errors
-    /// [`Error::BadArena`] if they are not a well-formed arena.
+    /// [`Error::BadArena`] if they are not a well-formed arena. They come back as they are.
     ///
     /// ```
     /// use cuffgarnet::{Error, Index};
@@ -318,84 +242,58 @@ impl<W: Words> Index<W> {
     /// let mut words = first.into_words();
     /// assert_eq!(Index::open(&mut words[..])?.get(3)?, Some(30));
     /// words[20] ^= 1;
-    /// assert_eq!(Index::open(words).err(), Some(Error::BadArena));
+    /// let refused = Index::open(words).map_err(|refused| (refused.error(), refused.into_words().len()));
+    /// assert_eq!(refused.err(), Some((Error::BadArena, 322)));
     /// # Ok::<(), Error>(())
     /// ```
-    pub fn open(words: W) -> Result<Self, Error> {
-        error::done(ffi::check(words.words()))?;
-        Ok(Index { words })
+    pub fn open(words: W) -> Result<Self, Refused<W>> {
+        Index::made(error::done(ffi::check(words.as_ref())), words)
     }
 
     /// Whether the words are a well-formed arena. Every other call does this by itself.
     ///
     /// # Errors
     /// [`Error::BadArena`] if they are not.
+    ///
+    /// ```
+    /// use cuffgarnet::{Error, Index};
+    /// assert_eq!(Index::with_nodes(4)?.check(), Ok(()));
+    /// # Ok::<(), Error>(())
+    /// ```
     pub fn check(&self) -> Result<(), Error> {
-        error::done(ffi::check(self.words.words()))
+        error::done(ffi::check(self.words.as_ref()))
     }
 
     /// The value of a key.
     ///
     /// # Errors
     /// [`Error::BadArena`].
+    ///
+    /// ```
+    /// use cuffgarnet::{Error, Index};
+    /// let mut index = Index::with_nodes(4)?;
+    /// index.insert(5, 50)?;
+    /// assert_eq!((index.get(5)?, index.get(6)?), (Some(50), None));
+    /// # Ok::<(), Error>(())
+    /// ```
     pub fn get(&self, key: u64) -> Result<Option<u64>, Error> {
-        error::value(ffi::get(self.words.words(), key))
+        error::value(&ffi::get(self.words.as_ref(), key))
     }
 
     /// Whether a key is present.
     ///
     /// # Errors
     /// [`Error::BadArena`].
+    ///
+    /// ```
+    /// use cuffgarnet::{Error, Index};
+    /// let mut index = Index::with_nodes(4)?;
+    /// index.insert(5, 50)?;
+    /// assert!(index.contains_key(5)? && !index.contains_key(6)?);
+    /// # Ok::<(), Error>(())
+    /// ```
     pub fn contains_key(&self, key: u64) -> Result<bool, Error> {
         Ok(self.get(key)?.is_some())
-    }
-
-    /// Puts a pair, and hands out the value that the key had before. The mark is then at least the key.
-    ///
-    /// # Errors
-    /// [`Error::NoRoom`] if the key is absent and there are not enough free nodes, [`Error::BadArena`]. No word has
-    /// changed then.
-    ///
-    /// ```
-    /// use cuffgarnet::{Error, Index};
-    /// let mut index = Index::with_nodes(1)?;
-    /// for key in 1..=11 {
-    ///     index.insert(key, 0)?;
-    /// }
-    /// assert_eq!(index.insert(12, 0), Err(Error::NoRoom));
-    /// assert_eq!(index.insert(11, 1), Ok(Some(0)));
-    /// assert_eq!(index.mark()?, Some(11));
-    /// # Ok::<(), Error>(())
-    /// ```
-    pub fn insert(&mut self, key: u64, value: u64) -> Result<Option<u64>, Error> {
-        error::value(ffi::put(self.words.words_mut(), key, value))
-    }
-
-    /// Takes a pair out, and hands out its value. The mark stays.
-    ///
-    /// # Errors
-    /// [`Error::BadArena`].
-    pub fn remove(&mut self, key: u64) -> Result<Option<u64>, Error> {
-        error::value(ffi::delete(self.words.words_mut(), key))
-    }
-
-    /// Spends a counter when it is handed out, before its message is put: the mark becomes the key, and no pair is stored. A writer
-    /// that dies before its put leaves a counter that nobody gets again.
-    ///
-    /// # Errors
-    /// [`Error::Spent`] if the mark has reached the key, [`Error::BadArena`]. No word has changed then.
-    ///
-    /// ```
-    /// use cuffgarnet::{Error, Index};
-    /// let mut index = Index::with_nodes(1)?;
-    /// index.reserve(9)?;
-    /// assert_eq!(index.reserve(9), Err(Error::Spent));
-    /// assert_eq!((index.get(9)?, index.mark()?), (None, Some(9)));
-    /// index.insert(9, 90)?; // the message of counter 9
-    /// # Ok::<(), Error>(())
-    /// ```
-    pub fn reserve(&mut self, key: u64) -> Result<(), Error> {
-        error::done(ffi::reserve(self.words.words_mut(), key))
     }
 
     /// Writes the first pairs of a range into `out`, key then value, in rising order, as many as half its length; further
@@ -414,16 +312,16 @@ impl<W: Words> Index<W> {
     /// let mut out = [0; 4];
     /// let listed = index.range_into(15.., &mut out)?;
     /// assert_eq!((listed.written, listed.more, out), (2, false, [20, 21, 30, 31]));
-    /// assert_eq!(index.range_into(.., &mut out)?.more, true);
+    /// assert!(index.range_into(.., &mut out)?.more);
     /// assert_eq!(index.range_into(6..=5, &mut out), Err(Error::BadRange));
     /// # Ok::<(), Error>(())
     /// ```
     pub fn range_into(&self, range: impl RangeBounds<u64>, out: &mut [u64]) -> Result<Listed, Error> {
-        range::list(self.words.words(), range.start_bound().cloned(), range.end_bound().cloned(), out)
+        range::list(self.words.as_ref(), bounds(&range), out)
     }
 
-    /// The pairs of a range in rising order. They are listed by pages of 1,024, and each page costs a check of the arena.
-    /// An error is an item, the last one.
+    /// The pairs of a range in rising order, or from the back in falling order. They are listed by pages of 1,024. A page from the front
+    /// costs a check of the arena, one from the back two (the first three). An error is an item, the last one.
     ///
     /// ```
     /// use cuffgarnet::{Error, Index};
@@ -433,14 +331,31 @@ impl<W: Words> Index<W> {
     /// }
     /// let pairs: Result<Vec<_>, Error> = index.range(..=20).collect();
     /// assert_eq!(pairs?, [(10, 11), (20, 21)]);
+    /// let falling: Result<Vec<_>, Error> = index.range(15..).rev().collect();
+    /// assert_eq!(falling?, [(30, 31), (20, 21)]);
     /// assert_eq!(index.range(6..=5).next(), Some(Err(Error::BadRange)));
     /// # Ok::<(), Error>(())
     /// ```
+    #[cfg(feature = "alloc")]
     pub fn range(&self, range: impl RangeBounds<u64>) -> Range<'_> {
-        Range::new(self.words.words(), range.start_bound().cloned(), range.end_bound().cloned())
+        Range::new(self.words.as_ref(), bounds(&range))
     }
 
     /// All pairs in rising order; as [`range`](Self::range) of everything.
+    ///
+    /// ```
+    /// use cuffgarnet::{Error, Index};
+    /// let mut index = Index::with_nodes(4)?;
+    /// index.extend([(20, 2), (10, 1)])?;
+    /// let pairs: Result<Vec<_>, Error> = index.iter().collect();
+    /// assert_eq!(pairs?, [(10, 1), (20, 2)]);
+    /// for pair in &index {
+    ///     let (key, value) = pair?;
+    ///     assert_eq!(key, 10 * value);
+    /// }
+    /// # Ok::<(), Error>(())
+    /// ```
+    #[cfg(feature = "alloc")]
     pub fn iter(&self) -> Range<'_> {
         self.range(..)
     }
@@ -462,7 +377,7 @@ impl<W: Words> Index<W> {
     /// # Ok::<(), Error>(())
     /// ```
     pub fn rank(&self, key: u64) -> Result<usize, Error> {
-        error::number(ffi::rank(self.words.words(), key))
+        error::number(&ffi::rank(self.words.as_ref(), key))
     }
 
     /// How many pairs a range has: as many as [`range`](Self::range) lists. Behind the check it costs two ways down the tree, however
@@ -483,7 +398,7 @@ impl<W: Words> Index<W> {
     /// # Ok::<(), Error>(())
     /// ```
     pub fn count(&self, range: impl RangeBounds<u64>) -> Result<usize, Error> {
-        range::count(self.words.words(), range.start_bound().cloned(), range.end_bound().cloned())
+        range::count(self.words.as_ref(), bounds(&range))
     }
 
     /// The pair at a rank: the one that so many pairs are before, in rising order. `None` if there are no more pairs than that. Behind the
@@ -504,7 +419,146 @@ impl<W: Words> Index<W> {
     /// # Ok::<(), Error>(())
     /// ```
     pub fn nth(&self, rank: usize) -> Result<Option<(u64, u64)>, Error> {
-        error::pair(ffi::at(self.words.words(), rank as u64))
+        error::pair(&ffi::at(self.words.as_ref(), rank as u64))
+    }
+
+    /// A copy of all words, for [`restore`](Self::restore) or a file.
+    ///
+    /// ```
+    /// use cuffgarnet::{Error, Index};
+    /// let mut index = Index::with_nodes(4)?;
+    /// index.insert(5, 50)?;
+    /// let image = index.snapshot();
+    /// index.remove(5)?;
+    /// index.restore(&image)?;
+    /// assert_eq!(index.get(5)?, Some(50));
+    /// # Ok::<(), Error>(())
+    /// ```
+    #[cfg(feature = "alloc")]
+    pub fn snapshot(&self) -> Vec<u64> {
+        self.words.as_ref().to_vec()
+    }
+
+    /// The words as they stand.
+    ///
+    /// ```
+    /// use cuffgarnet::{Error, Index};
+    /// let index = Index::with_nodes(2)?;
+    /// assert_eq!(index.words()[..10], [2, 2, 10, 0, 0, 0, 1, 1, 0, 0]); // the header
+    /// # Ok::<(), Error>(())
+    /// ```
+    pub fn words(&self) -> &[u64] {
+        self.words.as_ref()
+    }
+}
+
+impl<W: WordsMut> Index<W> {
+    /// Formats words as an empty index, whatever they held, and forgets the mark: who formats a lost arena anew reserves the saved
+    /// mark first.
+    ///
+    /// # Errors
+    /// [`Error::BadSize`] if their number is not 10 + 39 N for an N of 1 to 1,048,575. No word has changed then, and they come back.
+    ///
+    /// ```
+    /// use cuffgarnet::{Error, Index};
+    /// let mut lent = [7; 88];
+    /// let mut index = Index::format(&mut lent[..])?;
+    /// index.insert(1, 10)?;
+    /// assert_eq!(lent[5], 1); // one pair, in the words that were lent
+    /// # Ok::<(), Error>(())
+    /// ```
+    pub fn format(mut words: W) -> Result<Self, Refused<W>> {
+        let arena = words.as_mut();
+        let made = error::sized(ffi::format(arena), || Size::Words { given: arena.len() });
+        Index::made(made, words)
+    }
+
+    /// Writes an arena of format 1 into these words, in format 2: the same nodes at the same numbers, the same pairs, the same mark,
+    /// and in each node how many pairs are below it. What the words held before does not matter, and a mark in it is forgotten. The
+    /// old words are only read. It costs a check of the old words and one pass over both. [`upgraded`](Index::upgraded) does
+    /// the same into words of its own.
+    ///
+    /// # Errors
+    /// [`Error::BadArena`] if the old words are not a well-formed arena of format 1 (one of format 2 is none, and one whose free
+    /// nodes are not chained in rising order is none either); then [`Error::BadSize`] if there are not 10 + 39 N words for as
+    /// many nodes as the old arena has. No word has changed then, and the words to write to come back.
+    ///
+    /// ```
+    /// use cuffgarnet::{Error, Index};
+    /// let mut old = vec![0; 10 + 38]; // an arena of format 1 with one node and no pair, which has seen the key 7
+    /// old[..10].copy_from_slice(&[1, 1, 10, 0, 0, 0, 4_294_967_295, 0, 1, 7]);
+    /// old[10..13].copy_from_slice(&[1, 0, 4_294_967_295]);
+    /// assert_eq!(Index::open(old.clone()).map_err(Error::from).err(), Some(Error::BadArena)); // as by every other call
+    /// let mut file = vec![0; 10 + 39]; // or the words of a new mapped file
+    /// let mut index = Index::upgrade(&old, &mut file[..])?;
+    /// assert_eq!((index.len()?, index.mark()?), (0, Some(7)));
+    /// index.insert(8, 80)?;
+    /// assert!(Index::upgrade(&file.clone(), file).is_err()); // it is of format 2 already
+    /// # Ok::<(), Error>(())
+    /// ```
+    pub fn upgrade(old: &[u64], mut words: W) -> Result<Self, Refused<W>> {
+        let arena = words.as_mut();
+        let made = error::sized(ffi::upgrade(old, arena), || Size::Target {
+            given: arena.len(),
+            wanted: words_for(error::long(stats::word(old, stats::NODES))).unwrap_or(0),
+        });
+        Index::made(made, words)
+    }
+
+    /// Puts a pair, and hands out the value that the key had before. The mark is then at least the key.
+    ///
+    /// # Errors
+    /// [`Error::NoRoom`] if the key is absent and there are not enough free nodes, [`Error::BadArena`]. No word has
+    /// changed then.
+    ///
+    /// ```
+    /// use cuffgarnet::{Error, Index};
+    /// let mut index = Index::with_nodes(1)?;
+    /// for key in 1..=11 {
+    ///     index.insert(key, 0)?;
+    /// }
+    /// assert_eq!(index.insert(12, 0), Err(Error::NoRoom));
+    /// assert_eq!(index.insert(11, 1), Ok(Some(0)));
+    /// assert_eq!(index.mark()?, Some(11));
+    /// # Ok::<(), Error>(())
+    /// ```
+    pub fn insert(&mut self, key: u64, value: u64) -> Result<Option<u64>, Error> {
+        error::value(&ffi::put(self.words.as_mut(), key, value))
+    }
+
+    /// Takes a pair out, and hands out its value. The mark stays.
+    ///
+    /// # Errors
+    /// [`Error::BadArena`].
+    ///
+    /// ```
+    /// use cuffgarnet::{Error, Index};
+    /// let mut index = Index::with_nodes(4)?;
+    /// index.insert(5, 50)?;
+    /// assert_eq!((index.remove(5)?, index.remove(5)?), (Some(50), None));
+    /// # Ok::<(), Error>(())
+    /// ```
+    pub fn remove(&mut self, key: u64) -> Result<Option<u64>, Error> {
+        error::value(&ffi::delete(self.words.as_mut(), key))
+    }
+
+    /// Spends a counter when it is handed out, before its message is put: the mark becomes the key, and no pair is stored. A writer
+    /// that dies before its put leaves a counter that nobody gets again.
+    ///
+    /// # Errors
+    /// [`Error::Spent`] if the mark has reached the key, [`Error::BadArena`]. No word has changed then.
+    ///
+    /// ```
+    /// use cuffgarnet::{Error, Index};
+    /// let mut index = Index::with_nodes(1)?;
+    /// index.reserve(9)?;
+    /// assert_eq!(index.reserve(9), Err(Error::Spent));
+    /// assert_eq!((index.get(9)?, index.mark()?), (None, Some(9)));
+    /// index.insert(9, 90)?; // the message of counter 9
+    /// # Ok::<(), Error>(())
+    /// ```
+    pub fn reserve(&mut self, key: u64) -> Result<(), Error> {
+        error::done(ffi::reserve(self.words.as_mut(), key))
     }
 
     /// Runs one order, as the single call of its kind would.
@@ -520,7 +574,7 @@ impl<W: Words> Index<W> {
     /// # Ok::<(), Error>(())
     /// ```
     pub fn apply_one(&mut self, order: Order) -> Outcome {
-        order::apply_one(self.words.words_mut(), order)
+        order::apply_one(self.words.as_mut(), order)
     }
 
     /// Runs orders in turn behind one check of the arena, each as the single call would. A refused order does not stop
@@ -536,8 +590,9 @@ impl<W: Words> Index<W> {
     /// assert_eq!(said, [Ok(None), Ok(Some(10)), Ok(Some(10)), Ok(None)]);
     /// # Ok::<(), Error>(())
     /// ```
+    #[cfg(feature = "alloc")]
     pub fn apply(&mut self, orders: &[Order]) -> Result<Vec<Outcome>, Error> {
-        order::apply(self.words.words_mut(), orders)
+        order::apply(self.words.as_mut(), orders)
     }
 
     /// The same on plain words and with no allocation: an order is code (1 put, 2 get, 3 delete, 4 reserve), key and value; its
@@ -548,21 +603,20 @@ impl<W: Words> Index<W> {
     /// [`Error::BadArena`]. No order has run and no answer is written then.
     ///
     /// ```
-    /// use cuffgarnet::{Error, Index};
+    /// use cuffgarnet::{Error, Index, Size};
     /// let mut index = Index::with_nodes(4)?;
     /// let mut answers = [0; 6];
     /// index.apply_words(&[1, 5, 50, 2, 5, 0, 9, 0, 0], &mut answers)?;
     /// assert_eq!(answers, [0, 0, 1, 50, 6, 0]);
-    /// assert_eq!(index.apply_words(&[1, 5], &mut answers), Err(Error::BadSize));
+    /// assert_eq!(index.apply_words(&[1, 5], &mut answers), Err(Error::BadSize(Size::Orders { given: 2 })));
     /// # Ok::<(), Error>(())
     /// ```
     pub fn apply_words(&mut self, orders: &[u64], answers: &mut [u64]) -> Result<(), Error> {
-        error::done(ffi::batch(self.words.words_mut(), orders, answers))
-    }
-
-    /// A copy of all words, for [`restore`](Self::restore) or a file.
-    pub fn snapshot(&self) -> Vec<u64> {
-        self.words.words().to_vec()
+        let (asked, room) = (orders.len(), answers.len());
+        error::sized(ffi::batch(self.words.as_mut(), orders, answers), || match asked % 3 {
+            0 => Size::Answers { given: room, wanted: (asked / 3).saturating_mul(2) },
+            _ => Size::Orders { given: asked },
+        })
     }
 
     /// Brings the pairs of a snapshot back, unless it is older than this index: its mark is lower, or it has none while this has
@@ -587,7 +641,7 @@ impl<W: Words> Index<W> {
     /// # Ok::<(), Error>(())
     /// ```
     pub fn restore(&mut self, image: &[u64]) -> Result<(), Error> {
-        error::done(ffi::restore(self.words.words_mut(), image, 0))
+        self.restored(image, 0)
     }
 
     /// The same where an older snapshot is meant. The mark stays the larger of the two.
@@ -607,128 +661,21 @@ impl<W: Words> Index<W> {
     /// # Ok::<(), Error>(())
     /// ```
     pub fn restore_older(&mut self, image: &[u64]) -> Result<(), Error> {
-        error::done(ffi::restore(self.words.words_mut(), image, 1))
+        self.restored(image, 1)
     }
 
-    /// A header word, once the arena is checked.
-    fn header(&self, at: usize) -> Result<u64, Error> {
-        self.check()?;
-        self.words.words().get(at).copied().ok_or(Error::BadArena)
+    fn restored(&mut self, image: &[u64], older: u64) -> Result<(), Error> {
+        let arena = self.words.as_mut();
+        error::sized(ffi::restore(arena, image, older), || Size::Image { given: image.len(), wanted: arena.len() })
     }
+}
 
-    /// Cuts off the pairs with keys from this one on, as `BTreeMap::split_off` does: they go into these words, which are the answered index
-    /// then. What the words held does not matter. Both indexes have this one's mark afterwards. The pairs that go are loaded, so that they take
-    /// [`nodes_for`] as many nodes; [`rank`](Index::rank) tells before how many stay.
-    ///
-    /// # Errors
-    /// [`Error::BadSize`] if there are not 10 + 39 N words for an N of 1 to 1,048,575; then [`Error::BadArena`]; then [`Error::NoRoom`] if the nodes
-    /// of the words are too few. No word has changed then.
-    ///
-    /// ```
-    /// use cuffgarnet::{Error, Index};
-    /// let mut index = Index::loaded([(1, 10), (2, 20), (5, 50)], 4)?;
-    /// let mut words = [0; 49];
-    /// let upper = index.split_off(2, &mut words[..])?;
-    /// assert_eq!((index.len()?, index.get(1)?, index.mark()?), (1, Some(10), Some(5)));
-    /// assert_eq!((upper.len()?, upper.get(5)?, upper.mark()?), (2, Some(50), Some(5)));
-    /// # Ok::<(), Error>(())
-    /// ```
-    pub fn split_off<V: Words>(&mut self, key: u64, mut words: V) -> Result<Index<V>, Error> {
-        error::done(ffi::cut(self.words.words_mut(), words.words_mut(), key))?;
-        Ok(Index { words })
-    }
+#[cfg(feature = "alloc")]
+impl<'a, W: Words> IntoIterator for &'a Index<W> {
+    type Item = Result<(u64, u64), Error>;
+    type IntoIter = Range<'a>;
 
-    /// Moves all pairs of another index into this one, as `BTreeMap::append` does: of a key in both, the other's value stays. The mark is the
-    /// larger of both marks; the other index is empty then, and keeps its own. Both are walked over in order, and this one is loaded
-    /// anew, so that it holds the pairs in [`nodes_for`] as many nodes. The pairs are written out as words on the way;
-    /// [`append_words`](Index::append_words) takes the slice for that.
-    ///
-    /// # Errors
-    /// [`Error::BadArena`] for either; [`Error::NoRoom`] if this index has fewer nodes than the pairs of both take. No word has changed then.
-    ///
-    /// ```
-    /// use cuffgarnet::{Error, Index};
-    /// let mut a = Index::loaded([(1, 10), (2, 20), (3, 30)], 4)?;
-    /// let mut b = Index::loaded([(3, 31), (4, 40)], 1)?;
-    /// a.append(&mut b)?;
-    /// assert_eq!((a.len()?, a.get(3)?, a.mark()?), (4, Some(31), Some(4)));
-    /// assert_eq!((b.len()?, b.mark()?), (0, Some(4)));
-    /// # Ok::<(), Error>(())
-    /// ```
-    pub fn append<V: Words>(&mut self, other: &mut Index<V>) -> Result<(), Error> {
-        let pairs = self.told_pairs().saturating_add(other.told_pairs());
-        self.append_words(other, &mut vec![0; pairs.saturating_mul(2)])
-    }
-
-    /// The same with a slice for the joined pairs, key and value in turn from its first word on; further words of it stay.
-    ///
-    /// # Errors
-    /// As [`append`](Index::append), and behind [`Error::BadArena`] also [`Error::BadSize`] if the slice has fewer than two words for each pair
-    /// of both, a key in both counted twice.
-    ///
-    /// ```
-    /// use cuffgarnet::{Error, Index};
-    /// let mut a = Index::loaded([(1, 10), (3, 30)], 1)?;
-    /// let mut b = Index::loaded([(3, 31)], 1)?;
-    /// let mut run = [7; 8];
-    /// assert_eq!(a.append_words(&mut b, &mut run[..5]), Err(Error::BadSize));
-    /// a.append_words(&mut b, &mut run)?;
-    /// assert_eq!(run, [1, 10, 3, 31, 7, 7, 7, 7]);
-    /// # Ok::<(), Error>(())
-    /// ```
-    pub fn append_words<V: Words>(&mut self, other: &mut Index<V>, run: &mut [u64]) -> Result<(), Error> {
-        error::done(ffi::join(self.words.words_mut(), other.words.words_mut(), run))
-    }
-
-    /// The pair count that the header tells, not checked, and no more than there are words.
-    fn told_pairs(&self) -> usize {
-        let words = self.words.words();
-        let told = words.get(PAIRS).copied().unwrap_or(0);
-        usize::try_from(told).unwrap_or(usize::MAX).min(words.len())
-    }
-
-    /// How many pairs there are.
-    ///
-    /// # Errors
-    /// [`Error::BadArena`].
-    pub fn len(&self) -> Result<usize, Error> {
-        Ok(self.header(PAIRS)? as usize)
-    }
-
-    /// Whether there is no pair.
-    ///
-    /// # Errors
-    /// [`Error::BadArena`].
-    pub fn is_empty(&self) -> Result<bool, Error> {
-        Ok(self.len()? == 0)
-    }
-
-    /// How many nodes are free. An insertion of a new key takes one for each full node on its way up from the leaf, and
-    /// one more if that includes the root.
-    ///
-    /// # Errors
-    /// [`Error::BadArena`].
-    pub fn free_nodes(&self) -> Result<usize, Error> {
-        Ok(self.header(FREE)? as usize)
-    }
-
-    /// The largest key that was ever put or reserved, present or not; `None` if none was. No call but formatting lowers it.
-    ///
-    /// # Errors
-    /// [`Error::BadArena`].
-    pub fn mark(&self) -> Result<Option<u64>, Error> {
-        let seen = self.header(SEEN)?;
-        let mark = self.words.words().get(MARK).copied().ok_or(Error::BadArena)?;
-        Ok((seen == 1).then_some(mark))
-    }
-
-    /// The words as they stand.
-    pub fn words(&self) -> &[u64] {
-        self.words.words()
-    }
-
-    /// Gives the words back.
-    pub fn into_words(self) -> W {
-        self.words
+    fn into_iter(self) -> Range<'a> {
+        self.iter()
     }
 }

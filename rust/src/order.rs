@@ -1,9 +1,17 @@
 //! Orders of a batch, and their outcomes.
 
 use crate::error::{self, Error};
-use crate::ffi::{self, Said};
+use crate::ffi;
 
 /// One order of a batch.
+///
+/// ```
+/// use cuffgarnet::{Error, Index, Order};
+/// let mut index = Index::with_nodes(4)?;
+/// let said = index.apply(&[Order::Reserve(7), Order::Insert(7, 70), Order::Get(7), Order::Remove(7)])?;
+/// assert_eq!(said, [Ok(None), Ok(None), Ok(Some(70)), Ok(Some(70))]);
+/// # Ok::<(), Error>(())
+/// ```
 #[derive(Clone, Copy, Debug, Eq, Hash, PartialEq)]
 pub enum Order {
     /// Put this key with this value.
@@ -17,6 +25,14 @@ pub enum Order {
 }
 
 /// What an order came to: as the single call's result.
+///
+/// ```
+/// use cuffgarnet::{Error, Index, Order, Outcome};
+/// let mut index = Index::with_nodes(1)?;
+/// let outcome: Outcome = index.apply_one(Order::Insert(1, 10));
+/// assert_eq!(outcome, Ok(None)); // a new key
+/// # Ok::<(), Error>(())
+/// ```
 pub type Outcome = Result<Option<u64>, Error>;
 
 impl Order {
@@ -33,16 +49,15 @@ impl Order {
 
 pub(crate) fn apply_one(arena: &mut [u64], order: Order) -> Outcome {
     let [code, key, value] = order.words();
-    error::value(ffi::order(arena, code, key, value))
+    error::value(&ffi::order(arena, code, key, value))
 }
 
-pub(crate) fn apply(arena: &mut [u64], orders: &[Order]) -> Result<Vec<Outcome>, Error> {
+#[cfg(feature = "alloc")]
+pub(crate) fn apply(arena: &mut [u64], orders: &[Order]) -> Result<alloc::vec::Vec<Outcome>, Error> {
+    use alloc::vec::Vec;
     let asked: Vec<u64> = orders.iter().flat_map(|order| order.words()).collect();
     let mut said: Vec<u64> = orders.iter().flat_map(|_| [0, 0]).collect();
     error::done(ffi::batch(arena, &asked, &mut said))?;
-    let outcome = |pair: &[u64]| match pair {
-        [number, second] => error::value(Said { number: *number, second: *second }),
-        _ => Err(Error::BadSize),
-    };
-    Ok(said.chunks_exact(2).map(outcome).collect())
+    let answers = said.chunks_exact(2).filter_map(|answer| <[u64; 2]>::try_from(answer).ok());
+    Ok(answers.map(|[number, second]| error::value(&ffi::Said { number, second })).collect())
 }

@@ -1,25 +1,13 @@
 //! The walking cursor beside `BTreeMap`: both ways through indexes of every height, seeks, turns, ends, and what makes a cursor stale.
-#![allow(clippy::unwrap_used, clippy::indexing_slicing, clippy::arithmetic_side_effects)]
+#![cfg(feature = "alloc")]
+#![allow(clippy::unwrap_used, clippy::indexing_slicing, clippy::arithmetic_side_effects, reason = "a test may stop")]
 
+mod common;
+
+use common::Rand;
 use cuffgarnet::{Cursor, Error, Index, Moved};
 use std::collections::BTreeMap;
 use std::ops::Bound::{self, Excluded, Included, Unbounded};
-
-/// Plain pseudo-random numbers, the same in every run.
-struct Rand(u64);
-
-impl Rand {
-    fn next(&mut self) -> u64 {
-        self.0 ^= self.0 << 13;
-        self.0 ^= self.0 >> 7;
-        self.0 ^= self.0 << 17;
-        self.0
-    }
-
-    fn below(&mut self, n: u64) -> u64 {
-        self.next() % n
-    }
-}
 
 /// An index and the same map, made by random puts and removals.
 fn random(rand: &mut Rand, nodes: usize, turns: usize, keys: u64) -> (Index, BTreeMap<u64, u64>) {
@@ -120,6 +108,4 @@ fn a_stale_cursor_is_refused_and_may_seek() {
     }
     // at an end node and place are not looked at
     assert_eq!(Cursor::from_words([3, 0, 9, 9]).next(&index, 3).unwrap().1, Some((1, 10)));
-    let bad = vec![0; 88];
-    assert!(Index::open(bad).is_err());
 }

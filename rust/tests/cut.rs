@@ -1,12 +1,12 @@
 //! Cuts of an index in two.
-#![allow(clippy::unwrap_used, clippy::indexing_slicing, clippy::arithmetic_side_effects)]
+#![cfg(feature = "alloc")]
+#![allow(clippy::unwrap_used, clippy::indexing_slicing, clippy::arithmetic_side_effects, reason = "a test may stop")]
 
-use cuffgarnet::{nodes_for, words_for, Error, Index};
+mod common;
+
+use common::{base, pairs, why, KEYS};
+use cuffgarnet::{nodes_for_load, words_for, Error, Index, Refused, Size};
 use std::collections::BTreeMap;
-
-fn all<W: cuffgarnet::Words>(index: &Index<W>) -> Vec<(u64, u64)> {
-    index.iter().collect::<Result<_, _>>().unwrap()
-}
 
 /// So many pairs with even keys, put one by one in an order that is not theirs.
 fn made(many: u64, nodes: usize) -> (Index, BTreeMap<u64, u64>) {
@@ -27,14 +27,14 @@ fn is_the_split_off_of_btreemap() {
             let mark = first.mark().unwrap();
             let above = map.split_off(&key);
             assert_eq!(first.rank(key).unwrap(), map.len());
-            let nodes = nodes_for(above.len());
+            let nodes = nodes_for_load(above.len()).unwrap();
             let second = first.split_off(key, vec![7; words_for(nodes + 2).unwrap()]).unwrap();
-            assert_eq!(all(&first), map.into_iter().collect::<Vec<_>>(), "{many} at {key}");
-            assert_eq!(all(&second), above.into_iter().collect::<Vec<_>>(), "{many} at {key}");
+            assert_eq!(pairs(&first), map.into_iter().collect::<Vec<_>>(), "{many} at {key}");
+            assert_eq!(pairs(&second), above.into_iter().collect::<Vec<_>>(), "{many} at {key}");
             assert_eq!((first.mark().unwrap(), second.mark().unwrap()), (mark, mark));
             // whole, and the second in the words of a load, but for the mark
             first.check().unwrap();
-            let mut loaded = Index::loaded(all(&second), nodes + 2).unwrap();
+            let mut loaded = Index::loaded(pairs(&second), nodes + 2).unwrap();
             if loaded.mark().unwrap() < mark {
                 loaded.reserve(mark.unwrap()).unwrap();
             }
@@ -50,10 +50,10 @@ fn nothing_cut_off_still_repairs_the_border() {
     for k in 1..=12 {
         first.insert(k, 0).unwrap();
     }
-    let root = 10 + 39 * 2;
-    assert_eq!((first.words()[3], first.words()[root + 4]), (2, 7));
+    let root = base(2) + KEYS;
+    assert_eq!((first.words()[3], first.words()[root]), (2, 7));
     let second = first.split_off(13, vec![0; 49]).unwrap();
-    assert_eq!((first.words()[3], first.words()[root + 4], first.len().unwrap(), second.len().unwrap()), (2, 6, 12, 0));
+    assert_eq!((first.words()[3], first.words()[root], first.len().unwrap(), second.len().unwrap()), (2, 6, 12, 0));
 }
 
 #[test]
@@ -76,7 +76,7 @@ fn a_cut_undone_by_a_join() {
         let mark = first.mark().unwrap();
         let mut second = first.split_off(key, vec![0; words_for(300).unwrap()]).unwrap();
         first.append(&mut second).unwrap();
-        assert_eq!((all(&first), first.mark().unwrap()), (map.into_iter().collect::<Vec<_>>(), mark));
+        assert_eq!((pairs(&first), first.mark().unwrap()), (map.into_iter().collect::<Vec<_>>(), mark));
     }
 }
 
@@ -84,13 +84,15 @@ fn a_cut_undone_by_a_join() {
 fn refuses_in_its_order_and_changes_no_word() {
     let (mut first, _) = made(12, 3);
     let before = first.clone().into_words();
-    for (long, said) in
-        [(0, Error::BadSize), (48, Error::BadSize), (50, Error::BadSize), (49, Error::NoRoom), (88, Error::NoRoom)]
-    {
+    for long in [0, 48, 50, 49, 88] {
+        let said = match long {
+            49 | 88 => Error::NoRoom,
+            given => Error::BadSize(Size::Words { given }),
+        };
         let mut second = vec![7; long];
-        assert_eq!(first.split_off(0, &mut second[..]).err(), Some(said));
-        assert!(second.iter().all(|x| *x == 7));
-        assert_eq!(first.words(), &before[..]);
+        assert_eq!(why(first.split_off(0, &mut second[..])), Some(said));
+        assert_eq!(first.split_off(0, second).err().map(Refused::into_words), Some(vec![7; long]));
+        assert_eq!(first.words(), before);
     }
     // 11 go: one node is enough
     let mut second = [7; 49];

@@ -1,32 +1,12 @@
 //! The index beside `BTreeMap`, its refusals, and words of every kind that it must only refuse.
-#![allow(clippy::unwrap_used, clippy::indexing_slicing, clippy::arithmetic_side_effects)]
+#![cfg(feature = "alloc")]
+#![allow(clippy::unwrap_used, clippy::indexing_slicing, clippy::arithmetic_side_effects, reason = "a test may stop")]
 
-use cuffgarnet::{words_for, Error, Index, Order};
+mod common;
+
+use common::{filled, long, pairs, panics, ranges, value, why, Rand};
+use cuffgarnet::{words_for, Error, Index, Order, Size};
 use std::collections::BTreeMap;
-use std::ops::Bound::{self, Excluded, Included, Unbounded};
-
-/// Plain pseudo-random numbers, the same in every run.
-struct Rand(u64);
-
-impl Rand {
-    fn next(&mut self) -> u64 {
-        self.0 ^= self.0 << 13;
-        self.0 ^= self.0 >> 7;
-        self.0 ^= self.0 << 17;
-        self.0
-    }
-
-    fn below(&mut self, n: u64) -> u64 {
-        self.next() % n
-    }
-}
-
-fn filled(nodes: usize, keys: impl Iterator<Item = u64>) -> Index {
-    let mut index = Index::with_nodes(nodes).unwrap();
-    let orders: Vec<Order> = keys.map(|key| Order::Insert(key, !key)).collect();
-    assert!(index.apply(&orders).unwrap().iter().all(|o| *o == Ok(None)));
-    index
-}
 
 #[test]
 fn as_a_btree_map() {
@@ -47,8 +27,7 @@ fn as_a_btree_map() {
         if turn % 500 == 0 {
             assert_eq!(index.len(), Ok(map.len()));
             assert_eq!(index.mark(), Ok(mark));
-            let pairs: Vec<(u64, u64)> = index.iter().map(Result::unwrap).collect();
-            assert!(pairs.into_iter().eq(map.iter().map(|(k, v)| (*k, *v))));
+            assert!(pairs(&index).into_iter().eq(map.iter().map(|(k, v)| (*k, *v))));
         }
     }
 }
@@ -85,26 +64,18 @@ fn batches_answer_as_single_calls() {
 #[test]
 fn every_kind_of_range() {
     let index = filled(60, (0..200).map(|k| 2 * k));
-    let map: BTreeMap<u64, u64> = index.iter().map(Result::unwrap).collect();
-    let bounds = |key: u64| [Unbounded, Included(key), Excluded(key)];
-    for a in [0, 1, 21, 22, 200, 398, 399, u64::MAX] {
-        for b in [0, 22, 23, 100, 398, u64::MAX] {
-            for start in bounds(a) {
-                for end in bounds(b) {
-                    let bad = match (start, end) {
-                        (Excluded(s), Excluded(e)) => s >= e,
-                        (Included(s) | Excluded(s), Included(e) | Excluded(e)) => s > e,
-                        _ => false,
-                    };
-                    let listed: Result<Vec<_>, _> = index.range((start, end)).collect();
-                    let range: (Bound<u64>, Bound<u64>) = (start, end);
-                    if bad {
-                        assert_eq!(listed, Err(Error::BadRange));
-                    } else {
-                        assert!(listed.unwrap().into_iter().eq(map.range(range).map(|(k, v)| (*k, *v))));
-                    }
-                }
-            }
+    let map: BTreeMap<u64, u64> = pairs(&index).into_iter().collect();
+    for range in ranges(&[0, 1, 21, 22, 200, 398, 399, u64::MAX], &[0, 22, 23, 100, 398, u64::MAX]) {
+        let listed: Result<Vec<_>, _> = index.range(range).collect();
+        let mut falling: Result<Vec<_>, _> = index.range(range).rev().collect();
+        if let Ok(pairs) = &mut falling {
+            pairs.reverse();
+        }
+        assert_eq!(listed, falling);
+        if panics(range.0, range.1) {
+            assert_eq!(listed, Err(Error::BadRange));
+        } else {
+            assert!(listed.unwrap().into_iter().eq(map.range(range).map(|(k, v)| (*k, *v))));
         }
     }
 }
@@ -117,7 +88,7 @@ fn pages_join() {
         assert!(keys.into_iter().eq(0..pairs));
     }
     let index = filled(2, u64::MAX - 3..u64::MAX);
-    assert_eq!(index.range(u64::MAX - 1..).next(), Some(Ok((u64::MAX - 1, 1))));
+    assert_eq!(index.range(u64::MAX - 1..).next(), Some(Ok((u64::MAX - 1, u64::MAX))));
 }
 
 #[test]
@@ -135,13 +106,14 @@ fn into_a_buffer() {
 fn sizes() {
     for long in [0, 1, 9, 10, 48, 50, 86, 87, 89] {
         let mut words = vec![3; long];
-        assert_eq!(Index::format(&mut words[..]).err(), Some(Error::BadSize));
+        assert_eq!(why(Index::format(&mut words[..])), Some(Error::BadSize(Size::Words { given: long })));
         assert!(words.iter().all(|w| *w == 3));
-        assert_eq!(Index::open(&mut words[..]).err(), Some(Error::BadArena));
+        assert_eq!(why(Index::open(&mut words[..])), Some(Error::BadArena));
     }
     assert_eq!(words_for(1_048_575), Some(40_894_435));
-    assert_eq!(Index::with_nodes(usize::MAX).err(), Some(Error::BadSize));
-    assert_eq!(Index::with_nodes(1_048_576).err(), Some(Error::BadSize));
+    for given in [0, 1_048_576, usize::MAX] {
+        assert_eq!(why(Index::with_nodes(given)), Some(Error::BadSize(Size::Nodes { given })));
+    }
     let large = Index::with_nodes(65_536).unwrap();
     assert_eq!(large.free_nodes(), Ok(65_535));
 }
@@ -151,7 +123,7 @@ fn no_room_changes_nothing() {
     let mut index = filled(2, 1..=11);
     let before = index.snapshot();
     assert_eq!(index.insert(12, 0), Err(Error::NoRoom));
-    assert_eq!(index.apply(&[Order::Insert(12, 0), Order::Get(11)]), Ok(vec![Err(Error::NoRoom), Ok(Some(!11))]));
+    assert_eq!(index.apply(&[Order::Insert(12, 0), Order::Get(11)]), Ok(vec![Err(Error::NoRoom), Ok(Some(value(11)))]));
     assert_eq!(index.words(), before);
 }
 
@@ -165,12 +137,14 @@ fn restores() {
     assert_eq!(index.restore(&image), Err(Error::Older));
     assert_eq!(index.words(), later);
     index.restore_older(&image).unwrap();
-    assert_eq!(index.iter().collect::<Result<Vec<_>, _>>(), Ok(vec![(9, !9)]));
+    assert_eq!(index.iter().collect::<Result<Vec<_>, _>>(), Ok(vec![(9, value(9))]));
     assert_eq!(index.mark(), Ok(Some(12)));
 
     let before = index.snapshot();
-    assert_eq!(index.restore(&image[1..]), Err(Error::BadSize));
-    assert_eq!(index.restore(&[]), Err(Error::BadSize));
+    for image in [&image[1..], &[]] {
+        let size = Size::Image { given: image.len(), wanted: before.len() };
+        assert_eq!(index.restore(image), Err(Error::BadSize(size)));
+    }
     let mut damaged = image.clone();
     damaged[5] += 1;
     assert_eq!(index.restore(&damaged), Err(Error::BadImage));
@@ -200,9 +174,10 @@ fn borrowed_words() {
 /// Words that are no arena are neither opened nor restored, and stay as they are.
 fn all_refused(words: &mut [u64]) {
     let before = words.to_vec();
-    assert_eq!(Index::open(&mut *words).err(), Some(Error::BadArena));
+    assert_eq!(why(Index::open(&mut *words)), Some(Error::BadArena));
     let mut index = Index::with_nodes(3).unwrap();
-    assert_eq!(index.restore(words), Err(if words.len() == 127 { Error::BadImage } else { Error::BadSize }));
+    let size = Size::Image { given: words.len(), wanted: 127 };
+    assert_eq!(index.restore(words), Err(if words.len() == 127 { Error::BadImage } else { Error::BadSize(size) }));
     assert_eq!(words, before);
 }
 
@@ -221,7 +196,7 @@ fn damage_is_refused_or_harmless() {
             match Index::open(&mut words[..]) {
                 Ok(index) => assert!(index.iter().all(|pair| pair.is_ok())),
                 Err(e) => {
-                    assert_eq!(e, Error::BadArena);
+                    assert_eq!(e.error(), Error::BadArena);
                     refused += 1;
                 }
             }
@@ -234,7 +209,7 @@ fn damage_is_refused_or_harmless() {
 fn random_words_are_refused() {
     let mut rand = Rand(5);
     for turn in 0..2000 {
-        let long = if turn % 2 == 0 { 127 } else { rand.below(300) as usize };
+        let long = if turn % 2 == 0 { 127 } else { long(rand.below(300)) };
         let mut words: Vec<u64> =
             (0..long).map(|_| if rand.below(2) == 0 { rand.below(12) } else { rand.next() }).collect();
         if turn % 4 == 0 {
@@ -248,14 +223,16 @@ fn random_words_are_refused() {
 
 #[test]
 fn errors_have_their_numbers() {
-    let all = [Error::NoRoom, Error::BadArena, Error::BadRange, Error::BadOrder, Error::BadSize, Error::BadImage];
+    let size = Error::BadSize(Size::Words { given: 11 });
+    let all = [Error::NoRoom, Error::BadArena, Error::BadRange, Error::BadOrder, size, Error::BadImage];
     assert!(all.iter().map(|e| e.number()).eq(3..=8));
     assert!(all.iter().all(|e| !e.to_string().is_empty()));
     let mut index = Index::with_nodes(1).unwrap();
     let mut answers = [7; 4];
     assert_eq!(index.apply_words(&[0, 0, 0, u64::MAX, 0, 0], &mut answers), Ok(()));
     assert_eq!(answers, [6, 0, 6, 0]);
-    assert_eq!(index.apply_words(&[], &mut answers), Err(Error::BadSize));
+    let size = Size::Answers { given: 4, wanted: 0 };
+    assert_eq!(index.apply_words(&[], &mut answers), Err(Error::BadSize(size)));
     assert_eq!(index.apply_words(&[], &mut []), Ok(()));
     assert_eq!(index.apply(&[]), Ok(vec![]));
 }

@@ -1,7 +1,11 @@
 //! Joins of two indexes.
-#![allow(clippy::unwrap_used, clippy::indexing_slicing, clippy::arithmetic_side_effects)]
+#![cfg(feature = "alloc")]
+#![allow(clippy::unwrap_used, clippy::indexing_slicing, clippy::arithmetic_side_effects, reason = "a test may stop")]
 
-use cuffgarnet::{nodes_for, Error, Index};
+mod common;
+
+use common::pairs as all;
+use cuffgarnet::{nodes_for_load, Error, Index, Size};
 use std::collections::BTreeMap;
 
 /// Keys from one number on, each so far from the last, with values that tell the two sides apart.
@@ -9,8 +13,8 @@ fn pairs(from: u64, step: u64, many: u64, value: u64) -> Vec<(u64, u64)> {
     (0..many).map(|i| (from + step * i, value + i)).collect()
 }
 
-fn all(index: &Index) -> Vec<(u64, u64)> {
-    index.iter().collect::<Result<_, _>>().unwrap()
+fn nodes_for(pairs: usize) -> usize {
+    nodes_for_load(pairs).unwrap()
 }
 
 #[test]
@@ -77,9 +81,11 @@ fn refuses_in_its_order_and_changes_no_word() {
     let (mut first, mut second) =
         (Index::loaded(pairs(0, 1, 11, 0), 1).unwrap(), Index::loaded(pairs(5, 1, 7, 0), 1).unwrap());
     let before = (first.clone().into_words(), second.clone().into_words());
-    for (long, said) in
-        [(0, Error::BadSize), (24, Error::BadSize), (35, Error::BadSize), (36, Error::NoRoom), (37, Error::NoRoom)]
-    {
+    for long in [0, 24, 35, 36, 37] {
+        let said = match long {
+            36.. => Error::NoRoom,
+            given => Error::BadSize(Size::Joined { given, wanted: 36 }),
+        };
         let mut run = vec![7; long];
         assert_eq!(first.append_words(&mut second, &mut run), Err(said));
         assert!(run.iter().all(|x| *x == 7));

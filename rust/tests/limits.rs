@@ -1,21 +1,18 @@
 //! What the check cannot see, what formatting forgets, and the recipes of docs/OPERATING.md for both.
-#![allow(clippy::unwrap_used, clippy::indexing_slicing, clippy::arithmetic_side_effects)]
+#![cfg(feature = "alloc")]
+#![allow(clippy::unwrap_used, clippy::indexing_slicing, clippy::arithmetic_side_effects, reason = "a test may stop")]
 
-use cuffgarnet::{Error, Index, Order, Words};
+mod common;
+
+use common::{filled, long, why, Rand, HEADER, KEYS, NODE, VALUES};
+use cuffgarnet::{nodes_for, nodes_for_rising, Error, Index, Order, Size, Words};
 
 const MARK: usize = 9;
-const FIRST_KEY: usize = 10 + 4;
-const FIRST_VALUE: usize = 10 + 15;
-
-fn filled(nodes: usize, keys: impl Iterator<Item = u64>) -> Index {
-    let mut index = Index::with_nodes(nodes).unwrap();
-    let orders: Vec<Order> = keys.map(|key| Order::Insert(key, key + 1)).collect();
-    assert!(index.apply(&orders).unwrap().iter().all(|o| *o == Ok(None)));
-    index
-}
+const FIRST_KEY: usize = HEADER + KEYS;
+const FIRST_VALUE: usize = HEADER + VALUES;
 
 fn next_counter<W: Words>(index: &Index<W>) -> u64 {
-    index.mark().unwrap().map_or(1, |mark| mark + 1)
+    index.next_counter().unwrap().unwrap()
 }
 
 // ---- the check is no checksum
@@ -35,7 +32,7 @@ fn a_key_moved_within_its_gap_is_believed() {
     let index = Index::open(&mut words[..]).unwrap();
     assert_eq!((index.get(10), index.get(19)), (Ok(None), Ok(Some(11))));
     words[FIRST_KEY] = 20; // out of its gap: refused
-    assert_eq!(Index::open(words).err(), Some(Error::BadArena));
+    assert_eq!(why(Index::open(words)), Some(Error::BadArena));
 }
 
 #[test]
@@ -54,7 +51,7 @@ fn a_mark_lowered_where_the_keys_allow_it_is_believed() {
     assert_eq!((next_counter(&index), index.len()), (10, Ok(1)));
 
     words[MARK] = 2; // below a key that is there: refused
-    assert_eq!(Index::open(words).err(), Some(Error::BadArena));
+    assert_eq!(why(Index::open(words)), Some(Error::BadArena));
 }
 
 /// All single-bit flips of an arena of 64 nodes with 300 pairs: which of them the check cannot see.
@@ -67,7 +64,7 @@ fn one_flip_in_seven_is_believed() {
             flips += 1;
             words[at] ^= 1 << bit;
             if Index::open(&mut words[..]).is_ok() {
-                match at.checked_sub(10).map(|w| w % 39) {
+                match at.checked_sub(HEADER).map(|w| w % NODE) {
                     Some(15..=25) => values += 1,
                     Some(4..=14) => keys += 1,
                     _ => {
@@ -100,7 +97,7 @@ fn story() -> (Vec<u64>, u64) {
 fn a_lost_arena_forgets_the_mark() {
     let (image, saved) = story();
     let mut torn = vec![7; image.len()];
-    assert_eq!(Index::open(&mut torn[..]).err(), Some(Error::BadArena)); // no call but formatting takes these words
+    assert_eq!(why(Index::open(&mut torn[..])), Some(Error::BadArena)); // no call but formatting takes these words
     let mut index = Index::format(torn).unwrap();
     index.restore(&image).unwrap();
     assert_eq!((saved, next_counter(&index)), (5, 4)); // counters 4 and 5 would be used a second time
@@ -135,7 +132,8 @@ fn recovery() {
     let mut damaged = image.clone();
     damaged[5] += 1;
     assert_eq!(recovered(8, Some(saved), Some(&damaged)).err(), Some(Error::BadImage));
-    assert_eq!(recovered(9, Some(saved), Some(&image)).err(), Some(Error::BadSize));
+    let size = Size::Image { given: image.len(), wanted: image.len() + NODE };
+    assert_eq!(recovered(9, Some(saved), Some(&image)).err(), Some(Error::BadSize(size)));
 }
 
 // ---- growing, and the last counter
@@ -144,12 +142,7 @@ fn recovery() {
 fn grown(old: &Index, nodes: usize) -> Result<Index, Error> {
     let mut new = recovered(nodes, old.mark()?, None)?;
     let pairs: Vec<(u64, u64)> = old.iter().collect::<Result<_, _>>()?;
-    for part in pairs.chunks(10_000) {
-        let orders: Vec<Order> = part.iter().map(|(key, value)| Order::Insert(*key, *value)).collect();
-        for outcome in new.apply(&orders)? {
-            outcome?;
-        }
-    }
+    new.extend(pairs)?;
     Ok(new)
 }
 
@@ -169,7 +162,7 @@ fn one_wrong_put_spends_every_counter() {
     index.insert(u64::MAX, 0).unwrap();
     index.remove(u64::MAX).unwrap();
     assert_eq!(index.mark(), Ok(Some(u64::MAX)));
-    assert_eq!(index.mark().unwrap().and_then(|mark| mark.checked_add(1)), None);
+    assert_eq!(index.next_counter(), Ok(None));
 }
 
 #[test]
@@ -179,5 +172,40 @@ fn pairs_a_node_for_rising_counters() {
         let orders: Vec<Order> = (1..=7 * nodes as u64 + 5).map(|key| Order::Insert(key, 0)).collect();
         let fitted = index.apply(&orders).unwrap().iter().take_while(|o| o.is_ok()).count();
         assert_eq!(fitted, pairs, "{nodes} nodes");
+        assert!(nodes_for_rising(pairs).unwrap() <= nodes && nodes_for_rising(pairs + 1).unwrap() > nodes);
     }
+}
+
+/// As long as there are no more pairs than that, no history is refused. The worst that was met is not far off.
+#[test]
+fn nodes_for_any_order() {
+    for most in [1, 10, 11, 12, 17, 71, 200, 400] {
+        let nodes = nodes_for(most).unwrap();
+        let mut index = Index::with_nodes(nodes).unwrap();
+        let mut rand = Rand(most as u64);
+        for turn in 0..3_000_u64 {
+            // full, then thinned out, again and again: by falling, rising and scattered keys
+            let key = match turn / 250 % 3 {
+                0 => turn,
+                1 => 1_000_000 - turn,
+                _ => rand.below(1_000_000),
+            };
+            if index.len().unwrap() == most {
+                let out = index.nth(long(rand.below(most as u64))).unwrap().unwrap();
+                index.remove(out.0).unwrap();
+            }
+            index.insert(key, 0).unwrap();
+        }
+    }
+    // rising keys leave six pairs in a node; with one of each leaf taken out, five
+    let mut index = filled(nodes_for_rising(2000).unwrap(), 0..2000);
+    let leaves = (0..).step_by(7).take_while(|key| *key < 1990);
+    leaves.for_each(|key| assert!(index.remove(key).unwrap().is_some()));
+    let stats = index.stats().unwrap();
+    let worst = nodes_for(stats.pairs).unwrap();
+    assert!(stats.nodes <= worst && worst - stats.nodes < worst / 20, "{stats:?}, {worst} at worst");
+    assert_eq!((nodes_for(0), nodes_for(5_242_895), nodes_for(usize::MAX)), (Some(1), None, None));
+    // the table of docs/BROKER.md
+    let table = [10_000, 100_000, 1_000_000, 5_242_894].map(|pairs| nodes_for(pairs).unwrap());
+    assert_eq!(table, [1_997, 19_997, 199_996, 1_048_575]);
 }

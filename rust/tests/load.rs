@@ -1,11 +1,12 @@
 //! Loads of pairs that are in order already.
-#![allow(clippy::unwrap_used, clippy::indexing_slicing, clippy::arithmetic_side_effects)]
+#![cfg(feature = "alloc")]
+#![allow(clippy::unwrap_used, clippy::indexing_slicing, clippy::arithmetic_side_effects, reason = "a test may stop")]
 
-use cuffgarnet::{nodes_for, words_for, Error, Index, Order};
+mod common;
+
+use common::{base, long, pairs, why, Rand, KEYS};
+use cuffgarnet::{nodes_for_load, words_for, Error, Index, Order, Refused, Size};
 use std::collections::BTreeMap;
-
-const HEADER: usize = 10;
-const NODE: usize = 39;
 
 /// So many pairs, the key k with the value k + 1000.
 fn run(pairs: u64) -> Vec<(u64, u64)> {
@@ -14,19 +15,19 @@ fn run(pairs: u64) -> Vec<(u64, u64)> {
 
 /// A node's keys.
 fn keys(index: &Index, node: usize) -> &[u64] {
-    let words = &index.words()[HEADER + NODE * node..][..NODE];
-    &words[4..4 + words[1] as usize]
+    let words = &index.words()[base(node)..];
+    &words[KEYS..][..long(words[1])]
 }
 
 #[test]
 fn holds_the_pairs_in_the_fewest_nodes() {
     for pairs in (0..=400).chain([1727, 1728, 1729, 20_000, 20_735, 20_736, 20_737]) {
         let run = run(pairs);
-        let need = nodes_for(run.len());
+        let need = nodes_for_load(run.len()).unwrap();
         for spare in [0, 2] {
             let index = Index::loaded(&run, need + spare).unwrap();
             index.check().unwrap();
-            assert_eq!(index.iter().collect::<Result<Vec<_>, _>>().unwrap(), run, "{pairs} pairs");
+            assert_eq!(common::pairs(&index), run, "{pairs} pairs");
             assert_eq!((index.len().unwrap(), index.free_nodes().unwrap()), (run.len(), spare));
             assert_eq!(index.mark().unwrap(), run.last().map(|p| p.0));
         }
@@ -57,15 +58,16 @@ fn fills_from_the_left_and_stocks_the_right_border() {
 fn refuses_in_its_order_and_changes_no_word() {
     let rising = [1, 10, 2, 20];
     let many: Vec<u64> = (0..24).collect();
+    let (odd, words) = (Error::BadSize(Size::Run { given: 3 }), |given| Error::BadSize(Size::Words { given }));
     for (long, run, said) in [
-        (49, &rising[..3], Error::BadSize),
-        (48, &rising[..], Error::BadSize),
-        (0, &rising[..0], Error::BadSize),
-        (10 + 38 * 2, &rising[..], Error::BadSize),
+        (49, &rising[..3], odd),
+        (48, &rising[..], words(48)),
+        (0, &rising[..0], words(0)),
+        (10 + 38 * 2, &rising[..], words(86)),
         // behind a bad size everything else
-        (48, &[5, 1, 4, 1][..], Error::BadSize),
-        (49, &[5, 1, 4][..], Error::BadSize),
-        (48, &many[..], Error::BadSize),
+        (48, &[5, 1, 4, 1][..], words(48)),
+        (48, &[5, 1, 4][..], odd),
+        (48, &many[..], words(48)),
         (49, &[5, 1, 4, 1][..], Error::NotRising),
         (49, &[5, 1, 5, 1][..], Error::NotRising),
         (49, &[0, 0, 0, 0][..], Error::NotRising),
@@ -80,15 +82,16 @@ fn refuses_in_its_order_and_changes_no_word() {
         });
         for before in [Some(vec![7; long]), good].into_iter().flatten() {
             let mut words = before.clone();
-            assert_eq!(Index::load_words(run, &mut words[..]).err(), Some(said), "{long} words, {run:?}");
+            assert_eq!(why(Index::load_words(run, &mut words[..])), Some(said), "{long} words, {run:?}");
             assert_eq!(words, before);
+            assert_eq!(Index::load_words(run, words).err().map(Refused::into_words), Some(before));
         }
     }
     // not rising comes before the nodes
     let mut falling = many.clone();
     falling[22] = 3;
-    assert_eq!(Index::load_words(&falling, vec![0; 49]).err(), Some(Error::NotRising));
-    assert_eq!(Index::loaded(run(1), 0).err(), Some(Error::BadSize));
+    assert_eq!(why(Index::load_words(&falling, vec![0; 49])), Some(Error::NotRising));
+    assert_eq!(why(Index::loaded(run(1), 0)), Some(Error::BadSize(Size::Nodes { given: 0 })));
 }
 
 #[test]
@@ -113,12 +116,11 @@ fn begins_anew_whatever_the_words_held() {
 fn takes_orders_afterwards() {
     let mut map: BTreeMap<u64, u64> = (0..5000).map(|k| (3 * k, k)).collect();
     let mut index = Index::loaded(map.iter().map(|(k, v)| (*k, *v)), 3000).unwrap();
-    let mut x = 1_u64;
+    let mut rand = Rand(1);
     for _ in 0..40 {
         let orders: Vec<Order> = (0..200)
             .map(|i| {
-                x = x.wrapping_mul(6_364_136_223_846_793_005).wrapping_add(1_442_695_040_888_963_407);
-                let key = (x >> 33) % 16_000;
+                let key = rand.below(16_000);
                 if i % 2 == 0 {
                     Order::Insert(key, i)
                 } else {
@@ -145,8 +147,7 @@ fn takes_orders_afterwards() {
 fn growing_by_a_load_keeps_pairs_and_mark() {
     let mut old = Index::loaded(run(300), 64).unwrap();
     old.reserve(777).unwrap();
-    let pairs: Vec<(u64, u64)> = old.iter().collect::<Result<_, _>>().unwrap();
-    let mut new = Index::load(&pairs, vec![7; words_for(128).unwrap()]).unwrap();
+    let mut new = Index::load(pairs(&old), vec![7; words_for(128).unwrap()]).unwrap();
     assert_eq!(new.mark().unwrap(), Some(300));
     new.reserve(old.mark().unwrap().unwrap()).unwrap();
     assert_eq!(new.mark().unwrap(), Some(777));
@@ -156,7 +157,7 @@ fn growing_by_a_load_keeps_pairs_and_mark() {
 #[test]
 fn a_million_pairs() {
     let run = run(1_000_000);
-    let index = Index::loaded(&run, nodes_for(run.len())).unwrap();
-    assert_eq!((index.len().unwrap(), index.free_nodes().unwrap(), index.words()[4]), (1_000_000, 0, 5));
+    let index = Index::loaded(&run, nodes_for_load(run.len()).unwrap()).unwrap();
+    assert_eq!((index.len().unwrap(), index.free_nodes().unwrap(), index.stats().unwrap().height), (1_000_000, 0, 5));
     assert_eq!((index.nth(0).unwrap(), index.nth(999_999).unwrap()), (Some((1, 1001)), Some((1_000_000, 1_001_000))));
 }

@@ -1,41 +1,13 @@
 //! Rank, count and the pair at a rank beside `BTreeMap`: while pairs come and go, in every kind of range, and in large indexes.
-#![allow(clippy::unwrap_used, clippy::indexing_slicing, clippy::arithmetic_side_effects)]
+#![cfg(feature = "alloc")]
+#![allow(clippy::unwrap_used, clippy::indexing_slicing, clippy::arithmetic_side_effects, reason = "a test may stop")]
 
-use cuffgarnet::{Error, Index, Order};
+mod common;
+
+use common::{base, filled, long, pairs, panics, ranges, value, why, Rand, COUNT, LINK, NONE};
+use cuffgarnet::{Error, Index};
 use std::collections::BTreeMap;
-use std::ops::Bound::{self, Excluded, Included, Unbounded};
-
-/// Plain pseudo-random numbers, the same in every run.
-struct Rand(u64);
-
-impl Rand {
-    fn next(&mut self) -> u64 {
-        self.0 ^= self.0 << 13;
-        self.0 ^= self.0 >> 7;
-        self.0 ^= self.0 << 17;
-        self.0
-    }
-
-    fn below(&mut self, n: u64) -> u64 {
-        self.next() % n
-    }
-}
-
-fn filled(nodes: usize, keys: impl Iterator<Item = u64>) -> Index {
-    let mut index = Index::with_nodes(nodes).unwrap();
-    let orders: Vec<Order> = keys.map(|key| Order::Insert(key, !key)).collect();
-    assert!(index.apply(&orders).unwrap().iter().all(|o| *o == Ok(None)));
-    index
-}
-
-/// Whether a range is refused, by the documentation of `BTreeMap::range`.
-fn panics(start: Bound<u64>, end: Bound<u64>) -> bool {
-    match (start, end) {
-        (Excluded(s), Excluded(e)) => s >= e,
-        (Included(s) | Excluded(s), Included(e) | Excluded(e)) => s > e,
-        _ => false,
-    }
-}
+use std::ops::Bound::{Excluded, Unbounded};
 
 /// Every rank, and the pair at each, of an index that holds these pairs; and ranks of the keys between.
 fn same_ranks(index: &Index, map: &BTreeMap<u64, u64>) {
@@ -68,8 +40,8 @@ fn while_pairs_come_and_go() {
         let (a, b) = (rand.below(1250), rand.below(1250));
         assert_eq!(index.rank(a), Ok(map.range(..a).count()));
         assert_eq!(index.count(a.min(b)..a.max(b)), Ok(map.range(a.min(b)..a.max(b)).count()));
-        let rank = rand.below(map.len() as u64 + 2) as usize;
-        assert_eq!(index.nth(rank), Ok(map.iter().nth(rank).map(|(k, v)| (*k, *v))));
+        let before = long(rand.below(map.len() as u64 + 2));
+        assert_eq!(index.nth(before), Ok(map.iter().nth(before).map(|(k, v)| (*k, *v))));
         if turn % 2000 == 1999 {
             same_ranks(&index, &map);
         }
@@ -87,24 +59,16 @@ fn while_pairs_come_and_go() {
 
 #[test]
 fn every_kind_of_range() {
-    for pairs in [0, 1, 11, 12, 200] {
-        let index = filled(60, (0..pairs).map(|k| 2 * k));
-        let map: BTreeMap<u64, u64> = index.iter().map(Result::unwrap).collect();
-        let bounds = |key: u64| [Unbounded, Included(key), Excluded(key)];
-        for a in [0, 1, 21, 22, 200, 398, 399, u64::MAX] {
-            for b in [0, 1, 22, 23, 100, 398, u64::MAX] {
-                for start in bounds(a) {
-                    for end in bounds(b) {
-                        let range: (Bound<u64>, Bound<u64>) = (start, end);
-                        let wanted =
-                            if panics(start, end) { Err(Error::BadRange) } else { Ok(map.range(range).count()) };
-                        assert_eq!(index.count(range), wanted, "{range:?} of {pairs}");
-                        // as many as a listing has
-                        let listed: Result<Vec<_>, _> = index.range(range).collect();
-                        assert_eq!(index.count(range), listed.map(|pairs| pairs.len()));
-                    }
-                }
-            }
+    for size in [0, 1, 11, 12, 200] {
+        let index = filled(60, (0..size).map(|k| 2 * k));
+        let map: BTreeMap<u64, u64> = pairs(&index).into_iter().collect();
+        for range in ranges(&[0, 1, 21, 22, 200, 398, 399, u64::MAX], &[0, 1, 22, 23, 100, 398, u64::MAX]) {
+            let bad = panics(range.0, range.1);
+            let wanted = if bad { Err(Error::BadRange) } else { Ok(map.range(range).count()) };
+            assert_eq!(index.count(range), wanted, "{range:?} of {size}");
+            // as many as a listing has
+            let listed: Result<Vec<_>, _> = index.range(range).collect();
+            assert_eq!(index.count(range), listed.map(|pairs| pairs.len()));
         }
     }
 }
@@ -125,18 +89,16 @@ fn in_a_large_index() {
     let mut map = BTreeMap::new();
     while map.len() < pairs {
         let key = rand.next();
-        map.insert(key, !key);
+        map.insert(key, value(key));
     }
-    let mut index = Index::with_nodes(10_000).unwrap();
     // in the order of their coming: by a second run of the same numbers
     let mut again = Rand(8);
-    let orders: Vec<Order> = (0..pairs).map(|_| again.next()).map(|key| Order::Insert(key, !key)).collect();
-    assert!(index.apply(&orders).unwrap().iter().all(|o| *o == Ok(None)));
+    let index = filled(10_000, (0..pairs).map(|_| again.next()));
     let keys: Vec<u64> = map.keys().copied().collect();
     for rank in (0..pairs).step_by(997).chain([0, pairs - 1]) {
-        assert_eq!(index.nth(rank), Ok(Some((keys[rank], !keys[rank]))));
+        assert_eq!(index.nth(rank), Ok(Some((keys[rank], value(keys[rank])))));
         assert_eq!((index.rank(keys[rank]), index.rank(keys[rank] + 1)), (Ok(rank), Ok(rank + 1)));
-        let other = rand.below(pairs as u64) as usize;
+        let other = long(rand.below(pairs as u64));
         let (low, high) = (rank.min(other), rank.max(other));
         assert_eq!(index.count(keys[low]..keys[high]), Ok(high - low));
         assert_eq!(index.count(keys[low]..=keys[high]), Ok(high - low + 1));
@@ -147,8 +109,6 @@ fn in_a_large_index() {
 /// The rank's own word of a node: each count is checked, not only the root's against the header.
 #[test]
 fn counts_are_checked_for_truth() {
-    const COUNT: usize = 38;
-    let base = |node: usize| 10 + 39 * node;
     let good = filled(40, 0..150).snapshot();
     let live: Vec<usize> = (0..40).filter(|n| good[base(*n)] != 0).collect();
     assert!(live.len() > 20);
@@ -156,7 +116,7 @@ fn counts_are_checked_for_truth() {
         for wrong in [good[base(node) + COUNT] + 1, good[base(node) + COUNT].wrapping_sub(1), u64::MAX] {
             let mut words = good.clone();
             words[base(node) + COUNT] = wrong;
-            assert_eq!(Index::open(words).err(), Some(Error::BadArena), "node {node}");
+            assert_eq!(why(Index::open(words)), Some(Error::BadArena), "node {node}");
         }
     }
     // one leaf's too many and the next one's too few: the sum is true, and so is every count above them
@@ -165,17 +125,17 @@ fn counts_are_checked_for_truth() {
         let mut words = good.clone();
         words[base(pair[0]) + COUNT] += 1;
         words[base(pair[1]) + COUNT] -= 1;
-        assert_eq!(Index::open(words).err(), Some(Error::BadArena), "leaves {pair:?}");
+        assert_eq!(why(Index::open(words)), Some(Error::BadArena), "leaves {pair:?}");
     }
     // of an inner node and its parent
     for node in live.iter().copied().filter(|n| good[base(*n)] == 2) {
         let mut words = good.clone();
         let mut at = node as u64;
-        while at != 4_294_967_295 {
-            words[base(at as usize) + COUNT] += 1;
-            at = good[base(at as usize) + 2];
+        while at != NONE {
+            words[base(long(at)) + COUNT] += 1;
+            at = good[base(long(at)) + LINK];
         }
         words[5] += 1;
-        assert_eq!(Index::open(words).err(), Some(Error::BadArena), "node {node} and all above it");
+        assert_eq!(why(Index::open(words)), Some(Error::BadArena), "node {node} and all above it");
     }
 }

@@ -1,21 +1,14 @@
 //! The upgrade of arenas of format 1. Such an arena is laid out here: the same words but the last of each node, and the format
 //! number 1.
-#![allow(clippy::unwrap_used, clippy::indexing_slicing, clippy::arithmetic_side_effects)]
+#![cfg(feature = "alloc")]
+#![allow(clippy::unwrap_used, clippy::indexing_slicing, clippy::arithmetic_side_effects, reason = "a test may stop")]
 
-use cuffgarnet::{words_for, Error, Index, Order};
+mod common;
 
-const HEADER: usize = 10;
-const NODE: usize = 39;
+use common::{filled, long, why, HEADER, LINK, NODE, NONE};
+use cuffgarnet::{words_for, Error, Index, Size};
+
 const FIRST_FREE: usize = 6;
-const LINK: usize = 2;
-const NONE: u64 = 4_294_967_295;
-
-fn filled(nodes: usize, keys: impl Iterator<Item = u64>) -> Index {
-    let mut index = Index::with_nodes(nodes).unwrap();
-    let orders: Vec<Order> = keys.map(|key| Order::Insert(key, key + 1)).collect();
-    assert!(index.apply(&orders).unwrap().iter().all(|o| *o == Ok(None)));
-    index
-}
 
 /// The words in format 1.
 fn old(new: &[u64]) -> Vec<u64> {
@@ -54,7 +47,7 @@ fn keeps_nodes_pairs_and_mark() {
         let source = old(index.words());
         let before = source.clone();
         // what the target held does not matter: zeros, noise, or a good arena with a mark of its own
-        let mut marked = Index::with_nodes(index.words()[1] as usize).unwrap();
+        let mut marked = Index::with_nodes(long(index.words()[1])).unwrap();
         marked.insert(u64::MAX, 1).unwrap();
         for target in [vec![0; index.words().len()], vec![7; index.words().len()], marked.into_words()] {
             let new = Index::upgrade(&source, target).unwrap();
@@ -87,16 +80,17 @@ fn into_borrowed_words() {
 fn other_calls_refuse_format_1() {
     for index in some() {
         let mut source = old(index.words());
-        assert_eq!(Index::open(&mut source[..]).err(), Some(Error::BadArena));
+        assert_eq!(why(Index::open(&mut source[..])), Some(Error::BadArena));
         let mut copy = index.clone();
-        assert_eq!(copy.restore_older(&source), Err(Error::BadSize));
+        let size = Size::Image { given: source.len(), wanted: index.words().len() };
+        assert_eq!(copy.restore_older(&source), Err(Error::BadSize(size)));
         assert_eq!(copy.words(), index.words());
     }
     // the one length that both formats have: 39 nodes of 38 words, 38 nodes of 39. The format number decides
     let index = filled(39, 1..=150);
     let source = old(index.words());
     assert_eq!((source.len(), words_for(38)), (1492, Some(1492)));
-    assert_eq!(Index::open(source.clone()).err(), Some(Error::BadArena));
+    assert_eq!(why(Index::open(source.clone())), Some(Error::BadArena));
     let mut other = filled(38, 1..=9);
     assert_eq!(other.restore_older(&source), Err(Error::BadImage));
     assert_eq!(Index::upgraded(&source).unwrap().words(), index.words());
@@ -104,13 +98,13 @@ fn other_calls_refuse_format_1() {
     let mut number = index.snapshot();
     number[0] = 1;
     assert_eq!(
-        (Index::open(number.clone()).err(), Index::upgraded(&number).err()),
+        (why(Index::open(number.clone())), Index::upgraded(&number).err()),
         (Some(Error::BadArena), Some(Error::BadArena))
     );
     let mut number = source.clone();
     number[0] = 2;
     assert_eq!(
-        (Index::open(number.clone()).err(), Index::upgraded(&number).err()),
+        (why(Index::open(number.clone())), Index::upgraded(&number).err()),
         (Some(Error::BadArena), Some(Error::BadArena))
     );
 }
@@ -118,7 +112,7 @@ fn other_calls_refuse_format_1() {
 /// Refused, with every word as it was.
 fn refused(source: &[u64], long: usize, error: Error) {
     let mut target = vec![7; long];
-    assert_eq!(Index::upgrade(source, &mut target[..]).err(), Some(error));
+    assert_eq!(why(Index::upgrade(source, &mut target[..])), Some(error));
     assert!(target.iter().all(|w| *w == 7));
 }
 
@@ -136,7 +130,7 @@ fn a_target_of_another_size() {
     let source = old(index.words());
     let long = index.words().len();
     for wrong in [0, 1, 9, 10, 49, source.len(), long - 39, long - 1, long + 1, long + 39] {
-        refused(&source, wrong, Error::BadSize);
+        refused(&source, wrong, Error::BadSize(Size::Target { given: wrong, wanted: long }));
         // a bad source comes first
         refused(index.words(), wrong, Error::BadArena);
         refused(&source[1..], wrong, Error::BadArena);
@@ -153,9 +147,9 @@ fn a_chain_that_falls_is_refused() {
     for chain in [[1, 3, 2], [2, 1, 3], [2, 3, 1], [3, 1, 2], [3, 2, 1]] {
         let mut source = good.clone();
         source[FIRST_FREE] = chain[0];
-        source[link(chain[0] as usize)] = chain[1];
-        source[link(chain[1] as usize)] = chain[2];
-        source[link(chain[2] as usize)] = NONE;
+        source[link(long(chain[0]))] = chain[1];
+        source[link(long(chain[1]))] = chain[2];
+        source[link(long(chain[2]))] = NONE;
         refused(&source, words_for(4).unwrap(), Error::BadArena);
     }
 }
@@ -178,11 +172,8 @@ fn damage_is_refused_as_in_format_2() {
                     taken += 1;
                 }
                 (a, b) => {
-                    assert_eq!(
-                        (a.err(), b.err()),
-                        (Some(Error::BadArena), Some(Error::BadArena)),
-                        "word {at} made {word}"
-                    );
+                    let bad = Some(Error::BadArena);
+                    assert_eq!((why(a), why(b)), (bad, bad), "word {at} made {word}");
                     refused += 1;
                 }
             }

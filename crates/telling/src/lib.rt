@@ -5,6 +5,7 @@ use std::num::wrapping_sub_u64;
 ghost use mathlib.Core.Path.{_≡_};
 ghost use Prim.Native.Nat.{_+_, _*_, _%_, _^_, _≤_, _<_};
 ghost use lib.ListN.{length};
+ghost use Rattle.io.specs.Counts.{Counts};
 ghost use Rattle.telling.specs.Numbers.{halfIn, wordIn, mixOf, mixAll, aroundOf};
 
 // A number and a space.
@@ -19,10 +20,44 @@ pub fn say_last(n: u64) {
     io::write_all(1, b"\n");
 }
 
-// A line with an answer's number and second word.
+// A number of digits, of which a word has 20 at most.
+fn few(k: usize) -> usize
+    ensures { λ r. ⌜ (r ≤ k) × (r ≤ 20) ⌝ }
+{
+    if k < 20 { k } else { 20 }
+}
+
+// Puts a number's digits into a line from `at` on; where they end.
+fn put_number(line: &mut [u8], at: usize, n: u64) -> usize
+    requires { ⌜ at + 20 ≤ length (now line) ⌝ }
+    ensures { λ r. ⌜ r ≤ at + 20 ⌝ }
+{
+    let mut text = [0u8; 20];
+    let k = few(io::decimal(n, &mut text));
+    let mut i = 0;
+    while i < k {
+        line[at + i] = text[i];
+        i += 1;
+    }
+    at + k
+}
+
+// Puts an answer's number and second word into a line of spaces, and the line's end behind them; how long it is.
+fn put_answer(line: &mut [u8], r: Answer) -> usize
+    requires { ⌜ 42 ≤ length (now line) ⌝ }
+    ensures { λ k. ⌜ Counts k (now (line .exit)) ⌝ }
+{
+    let middle = put_number(line, 0, r.number());
+    let end = put_number(line, middle + 1, r.word());
+    line[end] = b'\n';
+    end + 1
+}
+
+// A line with an answer's number and second word, by one write.
 pub fn say_answer(r: Answer) {
-    say(r.number());
-    say_last(r.word());
+    let mut line = [b' '; 42];
+    let k = put_answer(&mut line, r);
+    io::write_all(1, &line[..k]);
 }
 
 // Each word and a space.
