@@ -58,7 +58,8 @@ int main(void) {
     say("previous, before the first", number, key, value);
     number = cuffgarnet_last(upper, WORDS, 1, cursor, CUFFGARNET_CURSOR_WORDS, &key, &value);
     say("last", number, key, value);
-    say("next with three words", cuffgarnet_next(upper, WORDS, 1, cursor, 3, &key, &value), key, value);
+    number = cuffgarnet_next(upper, WORDS, 1, cursor, 3, &key, &value);
+    say("next with three words", number, key, value);
 
     /* two words for each pair of both */
     say("join with too short a run", cuffgarnet_join(lower, WORDS, upper, WORDS, run, 2 * PAIRS - 3), 0, 0);
