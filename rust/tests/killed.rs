@@ -93,6 +93,9 @@ fn a_delete_that_is_killed_may_lose_another_pair_unseen() {
     // asked for key, lost the one before it
 }
 
+/// An arena, an image, the arena's mark, and stops at the mark's words.
+type Turn<'a> = (&'a [u64], &'a [u64], u64, &'a [usize]);
+
 /// A restore raises the mark first, and its copy leaves the mark's words out. So wherever it is killed the mark is not lower; the pairs
 /// may be the arena's, the image's or some of each, or refused: docs/OPERATING.md. The stops are those that a page can make: at a
 /// word of the mark, at the first word of the copy, and at each word behind the header.
@@ -105,8 +108,7 @@ fn a_restore_that_is_killed_never_lowers_the_mark() {
     }
     let late = index.snapshot();
     // the arena, the image, the arena's mark; where the mark rises, the page may end at the mark's words too
-    let turns: [(&[u64], &[u64], u64, &[usize]); 2] =
-        [(&late, &early, 25, &[]), (&early, &late, 20, &[SEEN, SEEN - 1])];
+    let turns: [Turn<'_>; 2] = [(&late, &early, 25, &[]), (&early, &late, 20, &[SEEN, SEEN - 1])];
     for (before, image, mark, rising) in turns {
         let behind = HEADER + PAGE - 1..before.len() + PAGE - 1; // the page that ends here begins behind the header
         for stop in behind.chain(rising.iter().copied()) {
