@@ -31,7 +31,7 @@ use node::{
 use store::{correct_childrens_parent_links, take_node};
 
 // An empty right side: its top, and its leaf.
-#[derive(Drop)]
+#[derive(Clone, Copy)]
 pub struct RightSide {
     pub top: NodeNo,
     pub leaf: NodeNo,
@@ -53,7 +53,7 @@ fn right_side(a: &mut [u64], levels: usize) -> RightSide
 }
 
 // A node with room, and the levels below it.
-#[derive(Drop)]
+#[derive(Clone, Copy)]
 pub struct Opening {
     pub node: NodeNo,
     pub levels: usize,
@@ -121,7 +121,7 @@ fn push_up(a: &mut [u64], leaf: NodeNo, kv: Kv) -> NodeNo
 }
 
 // The last leaf, and how many pairs it has.
-#[derive(Drop)]
+#[derive(Clone, Copy)]
 pub struct LastLeaf {
     pub leaf: NodeNo,
     pub count: usize,

@@ -18,14 +18,14 @@ use model::{Answer, Layout};
 use node::{HEADER, MIN_LEN, NONE, NodeNo, Place, total};
 
 // What is left to be met, nodes and pairs, and the last key. It falls, so that hostile words cost no more than the nodes there are.
-#[derive(Drop)]
+#[derive(Clone, Copy)]
 pub struct Walk {
     pub nodes: usize,
     pub pairs: usize,
     pub last: Last,
 }
 
-#[derive(Drop)]
+#[derive(Clone, Copy)]
 pub enum Checked {
     Bad,
     Good(Walk),

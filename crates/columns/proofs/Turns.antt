@@ -6,8 +6,8 @@ use native.Mathlib.Numerals.{add-one}
 use native.Mathlib.Omega.{arith}
 use mathlib.Core.Path.{◌≡◌, refl, sym, ap, ◌∙◌, subst}
 use mathlib.Core.List.{List, [], ◌∷◌, ◌++◌, append_assoc, append-nil}
-use lib.ListN.{length, take, drop, get_or, set, replicate, length-append, length-replicate, replicate-append-replicate, drop_of_length-le, get_or-append}
-use lib.Seq.{get_or-take, take_length, take_at, take_all, length-take-le}
+use lib.ListN.{length, take, drop, get_or, set, replicate, length-append, length-replicate, replicate-append-replicate}
+use lib.Seq.{get_or-take, length-take-le}
 use Rattle.model.specs.Lists.{part, pad, insert_at}
 use Rattle.slices.specs.Words.{splice, remove_at}
 use Rattle.slices.proofs.Laws.{insert_length, insert_append, remove_length}

@@ -23,7 +23,7 @@ use restore::restore;
 use upgrade::upgrade;
 
 // A bound asked for by its kind.
-#[derive(Drop)]
+#[derive(Clone, Copy)]
 pub enum Bound {
     Known(SearchBound),
     Unknown,

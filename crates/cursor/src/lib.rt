@@ -20,7 +20,7 @@ use node::{FREE, INTERNAL, NodeNo, Place, edge, key, len, state, val};
 use search::Handle;
 
 // Where a cursor stands: before the first pair, at a pair, or past the last.
-#[derive(Drop)]
+#[derive(Clone, Copy)]
 pub enum Stand {
     Before,
     At(NodeNo, Place),
@@ -28,14 +28,14 @@ pub enum Stand {
 }
 
 // The count of changes that it was made or moved with, and where it stands.
-#[derive(Drop)]
+#[derive(Clone, Copy)]
 pub struct Cursor {
     pub changes: u64,
     pub stand: Stand,
 }
 
 // What a call hands back: the cursor, and the pair.
-#[derive(Drop)]
+#[derive(Clone, Copy)]
 pub struct Moved {
     pub cursor: Cursor,
     pub found: Picked,

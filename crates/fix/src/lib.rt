@@ -11,7 +11,7 @@ use node::{Ascent, CAPACITY, MIN_LEN, NodeNo, Place, ascend, edge, len};
 use totals::{set_right, settle};
 
 // Two neighbours, and the place of the pair between them in their parent.
-#[derive(Drop)]
+#[derive(Clone, Copy)]
 pub struct BalancingContext {
     pub parent: NodeNo,
     pub at: Place,
@@ -20,7 +20,7 @@ pub struct BalancingContext {
 }
 
 // A node's sibling: at its left, or at its right. The root has none.
-#[derive(Drop)]
+#[derive(Clone, Copy)]
 pub enum ParentKv {
     Left(BalancingContext),
     Right(BalancingContext),
@@ -28,7 +28,7 @@ pub enum ParentKv {
 }
 
 // What a repair through the parent leaves: the parent, which a merge has shrunk; nothing more to do; or a root without pairs.
-#[derive(Drop)]
+#[derive(Clone, Copy)]
 pub enum Fixed {
     Merged(NodeNo),
     Whole,

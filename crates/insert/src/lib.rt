@@ -20,14 +20,14 @@ use search::{Handle, SearchResult, search_tree};
 use totals::{set_right, settle};
 
 // What an insertion leaves for the level above: nothing, or a pair and the node right of it.
-#[derive(Drop)]
+#[derive(Clone, Copy)]
 pub enum Inserted {
     Fit,
     Split(SplitResult),
 }
 
 // An edge of a half.
-#[derive(Drop)]
+#[derive(Clone, Copy)]
 pub struct Target {
     pub node: NodeNo,
     pub at: Place,

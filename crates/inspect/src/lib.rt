@@ -18,7 +18,7 @@ use node::{
 const STEPS: usize = 10;
 
 // A node that an edge leads to: the levels below it, the fewest pairs it may hold, its number, the node and the edge that lead there.
-#[derive(Drop)]
+#[derive(Clone, Copy)]
 pub struct Visit {
     pub below: usize,
     pub fewest: usize,
@@ -28,7 +28,7 @@ pub struct Visit {
 }
 
 // The key that was passed last.
-#[derive(Drop)]
+#[derive(Clone, Copy)]
 pub enum Last {
     Start,
     After(u64),

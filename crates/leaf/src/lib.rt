@@ -12,7 +12,7 @@ use node::{KEYS, Kv, LEAF, NodeNo, Place, VALS, len};
 use store::take_node;
 
 // A split: the pair that rises, and the node right of it.
-#[derive(Drop)]
+#[derive(Clone, Copy)]
 pub struct SplitResult {
     pub kv: Kv,
     pub right: NodeNo,

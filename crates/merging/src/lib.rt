@@ -15,7 +15,7 @@ use node::{Kv, key, val};
 use search::Handle;
 
 // The next pair of a walk and the leaf edge after it, or the end.
-#[derive(Drop)]
+#[derive(Clone, Copy)]
 pub enum Head {
     Pair(Kv, Handle),
     End,
@@ -45,7 +45,7 @@ fn first(a: &[u64]) -> Head
 }
 
 // The next pair of both walks and where they stand after it, or the end.
-#[derive(Drop)]
+#[derive(Clone, Copy)]
 pub enum Merged {
     Pair(Kv, Head, Head),
     End,

@@ -15,7 +15,7 @@ use node::{Ascent, NodeNo, Place, ascend, edge, keys, len};
 use search::{Handle, find_lower_bound_index};
 
 // The pair beside an edge, or the end.
-#[derive(Drop)]
+#[derive(Clone, Copy)]
 pub enum Next {
     Kv(Handle),
     End,

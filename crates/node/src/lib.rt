@@ -1,4 +1,5 @@
 // Nodes of the arena: the two kinds of number, the places of a node's words, reading, and which pair of a full node rises.
+#![tactic(auto)]
 ghost use Rattle.std.specs.Prelude.{◌≡◌, ◌+◌, ◌<◌, ◌≤◌, max};
 ghost use Rattle.model.specs.Lists.{part};
 ghost use Rattle.model.specs.Layout.{base, most, node_size, state_word, length_word, parent_word, place_word, keys_word, values_word, edges_word, total_word, word_at};
@@ -43,15 +44,15 @@ pub const EDGES: usize = 26;
 pub const TOTAL: usize = 38;
 
 // The number of a node.
-#[derive(Drop)]
+#[derive(Clone, Copy)]
 pub struct NodeNo(pub usize);
 
 // A place in a node: of a pair, or of an edge.
-#[derive(Drop)]
+#[derive(Clone, Copy)]
 pub struct Place(pub usize);
 
 // A key and its value.
-#[derive(Drop)]
+#[derive(Clone, Copy)]
 pub struct Kv(pub u64, pub u64);
 
 // The larger of two words.
@@ -122,7 +123,7 @@ pub fn parent_idx(a: &[u64], n: NodeNo) -> u64
 }
 
 // Where a node hangs: at an edge of its parent, or nowhere.
-#[derive(Drop)]
+#[derive(Clone, Copy)]
 pub enum Ascent {
     Edge(NodeNo, Place),
     Root,
@@ -176,14 +177,14 @@ pub fn edge(a: &[u64], n: NodeNo, at: Place) -> NodeNo
 }
 
 // A place in the left half or in the right one.
-#[derive(Drop)]
+#[derive(Clone, Copy)]
 pub enum LeftOrRight {
     Left(Place),
     Right(Place),
 }
 
 // Which pair rises, and where the new one goes.
-#[derive(Drop)]
+#[derive(Clone, Copy)]
 pub struct Rising {
     pub middle: Place,
     pub insertion: LeftOrRight,

@@ -19,7 +19,7 @@ use node::{NodeNo, Place, edge, key, keys, total, val};
 use search::{Handle, find_lower_bound_index};
 
 // Where a rank leads in a node: to the pair there, or below the edge there, with the rank that is left.
-#[derive(Drop)]
+#[derive(Clone, Copy)]
 pub struct Lead {
     pub at: Place,
     pub rest: u64,

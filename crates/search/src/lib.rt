@@ -13,7 +13,7 @@ use model::{Range, SearchBound};
 use node::{NodeNo, Place, edge, keys, node_base};
 
 // A pair's or an edge's place: its node, the levels below that, and the place in it.
-#[derive(Drop)]
+#[derive(Clone, Copy)]
 pub struct Handle {
     pub node: NodeNo,
     pub height: usize,
@@ -21,28 +21,28 @@ pub struct Handle {
 }
 
 // The pair's place, or else the leaf edge where the search stopped.
-#[derive(Drop)]
+#[derive(Clone, Copy)]
 pub enum SearchResult {
     Found(Handle),
     GoDown(Handle),
 }
 
 // A pair's place in a node, or the edge where it belongs.
-#[derive(Drop)]
+#[derive(Clone, Copy)]
 pub enum IndexResult {
     Kv(Place),
     Edge(Place),
 }
 
 // An edge of a node, and the bound for the child there.
-#[derive(Drop)]
+#[derive(Clone, Copy)]
 pub struct BoundEdge {
     pub at: Place,
     pub bound: SearchBound,
 }
 
 // The node where the edges of a range part, both edges, and the bounds for its children.
-#[derive(Drop)]
+#[derive(Clone, Copy)]
 pub struct Parting {
     pub node: NodeNo,
     pub height: usize,
@@ -51,7 +51,7 @@ pub struct Parting {
     pub bounds: Range,
 }
 
-#[derive(Drop)]
+#[derive(Clone, Copy)]
 pub enum Bifurcation {
     Parted(Parting),
     Together(Handle),

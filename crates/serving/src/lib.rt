@@ -18,7 +18,7 @@ const ORDER: usize = 24;
 const TURNS: u64 = 1_000_000_000_000_000;
 
 // What comes of a reading of the input: a whole order's answer, that of a short last one, or nothing was read.
-#[derive(Drop)]
+#[derive(Clone, Copy)]
 pub enum Served {
     Answered(Answer),
     Last(Answer),

@@ -8,7 +8,7 @@ use native.Mathlib.Nat.{not-suc-le-zero, le_of_suc-le-suc, zero-add, suc-add}
 use native.Mathlib.Numerals.{add-one}
 use native.Mathlib.Omega.{arith}
 use lib.ListN.{replicate, drop_of_length-le, length, take, drop, get_or, set, length-append, length-drop, get_or-append, take-append-drop}
-use lib.Seq.{get_or-take, take_length, drop-length, set_at, append_snoc, take-suc, drop-cons, get_or-drop, take_all, take_at, drop_at, get_or_at, take-append-le, drop-append-le, take-append-add, drop-append-add, length-take-le, drop-drop}
+use lib.Seq.{get_or-take, take-length, drop-length, set_at, append_snoc, take-suc, drop-cons, get_or-drop, take_all, take_at, drop_at, get_or_at, take-append-le, drop-append-le, take-append-add, drop-append-add, length-take-le, drop-drop}
 use Rattle.model.specs.Lists.{part, insert_at}
 use Rattle.slices.specs.Words.{splice, remove_at}
 
@@ -217,7 +217,7 @@ splice_none l i k n e = rw e (sym (take-append-drop i l))
 
 pub insert_last : {A : Type 0} (s : List A) (v : A) → insert_at s (length s) v ≡ s ++ (v ∷ [])
 unfolding insert_at
-insert_last s v = rw (take_length s, drop-length s)
+insert_last s v = rw (take-length s, drop-length s)
 
 -- where the word in hand came down to idx, it is the word that was there
 pub removed : (s s₀ : List ℕ) (idx v : ℕ) → idx < length s₀ → length s ≡ length s₀ → insert_at s idx v ≡ s₀ ++ (0 ∷ []) → (v ≡ get_or s₀ idx 0) × (s ≡ remove_at s₀ idx ++ (0 ∷ []))

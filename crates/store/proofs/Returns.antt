@@ -11,7 +11,7 @@ use lib.Dec.{ltb}
 use lib.ListN.{length, set, length-set}
 use lib.Seq.{get_or-set_same, get_or-set_other}
 use borrow.Author.Tests.{ltb-true, lt-ltb, le-ltb}
-use Rattle.model.specs.Lists.{All, Rises, one, times}
+use Rattle.model.specs.Lists.{All, Rises, times}
 use Rattle.model.specs.Layout.{none, NodeVal, nth, blank}
 use Rattle.model.specs.Nodes.{returned}
 use Rattle.model.specs.Words.{free_val, first_or, chain_blocks}

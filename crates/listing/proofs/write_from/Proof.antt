@@ -4,7 +4,7 @@ use mathlib.Core.Path.{◌≡◌, refl, sym, ap, ◌∙◌}
 use mathlib.Core.Bool.{Bool, true, false}
 use lib.ListN.{length, set, length-set}
 use borrow.Author.Rules.{rules}
-use borrow.Author.Tests.{not_true, not_false}
+use borrow.Author.Tests.{not-true, not-false}
 use Rattle.model.specs.Tree.{Pair, after}
 use Rattle.model.specs.Range.{to_end}
 use Rattle.model.specs.Map.{up_to}
@@ -79,13 +79,13 @@ same-length-2 : tie.Need-same-length-2 invariant-loop decreases-loop
 same-length-2 c = c.before.before.before.before.before.before.before.before.before.loop.invariant.0
 
 returns-2 : tie.Need-returns-2 invariant-loop decreases-loop
-returns-2 c = λ s o y. end_told (sofar c.before.before.before.before.before.before.before.before.before o y) (seen c.before.before.before.before.before.before o y) c.before.before.before.before.before.before.before.before.before.loop.invariant.1 (test-is c.before o y false (not_true _ c.if1.true))
+returns-2 c = λ s o y. end_told (sofar c.before.before.before.before.before.before.before.before.before o y) (seen c.before.before.before.before.before.before o y) c.before.before.before.before.before.before.before.before.before.loop.invariant.1 (test-is c.before o y false (not-true _ c.if1.true))
 
 same-length-3 : tie.Need-same-length-3 invariant-loop decreases-loop
 same-length-3 c = c.before.before.before.before.before.before.before.before.before.before.loop.invariant.0
 
 returns-3 : tie.Need-returns-3 invariant-loop decreases-loop
-returns-3 c = λ s o y. more_told (sofar c.before.before.before.before.before.before.before.before.before.before o y) (seen c.before.before.before.before.before.before.before o y) c.if2.true (test-is c.before.before o y true (not_false _ c.before.if1.false))
+returns-3 c = λ s o y. more_told (sofar c.before.before.before.before.before.before.before.before.before.before o y) (seen c.before.before.before.before.before.before.before o y) c.if2.true (test-is c.before.before o y true (not-false _ c.before.if1.false))
 
 mul-out : tie.Need-overflow-mul-out invariant-loop decreases-loop
 mul-out c = omega (arith, fits c)
@@ -128,7 +128,7 @@ loop-again c =
       omega (arith, l.invariant.1, c.before.before.if2.false),
       λ s o y.
           let v = seen c.before.before.before.before.before.before.before.before.before o y in
-          one_more (sofar c.before.before.before.before.before.before.before.before.before.before.before.before o y) v (test-is c.before.before.before.before o y true (not_false _ c.before.before.before.if1.false)) (fits c.before.before) k c.before.val.result
+          one_more (sofar c.before.before.before.before.before.before.before.before.before.before.before.before o y) v (test-is c.before.before.before.before o y true (not-false _ c.before.before.before.if1.false)) (fits c.before.before) k c.before.val.result
           (key_is c.before.before.before.before o y) (c.before.val.ensures ∙ kv_val _ v.kv o) c.next-leaf-edge.result (c.next-leaf-edge.ensures s o v.kv),
     )
 

@@ -1,0 +1,12 @@
+-- Assumes nothing.
+use mathlib.Core.List.{◌++◌}
+use mathlib.Core.Path.{◌≡◌}
+use Prim.Native.Nat.{◌-◌, ◌≤◌}
+use lib.ListN.{length, drop, replicate}
+use Rattle.slices.proofs.clear.Given as goal
+
+abbrev pub invariant-loop-i : goal.invariant-loop-i
+invariant-loop-i l = (l.i ≤ length l.s) × (length l.s ≡ length l.initial.s) × (l.s ≡ replicate l.i 0 ++ drop l.i l.initial.s)
+
+abbrev pub decreases-loop-i : goal.decreases-loop-i
+decreases-loop-i l = length l.initial.s - l.i
