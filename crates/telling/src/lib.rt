@@ -1,21 +1,21 @@
 // What the programs share: numbers and words written out, words read from bytes, an arena's words mixed into one number.
 ghost use Rattle.std.specs.Prelude.{◌≡◌, ◌+◌, ◌*◌, ◌%◌, ◌^◌, ◌<◌, ◌≤◌, length};
-ghost use Rattle.io.specs.Counts.{IsPrefixLen};
+ghost use Rattle.std.specs.Counts.{IsPrefixLen};
 ghost use Rattle.telling.specs.Numbers.{half_in, word_in, mix_of, mix_all, around_of};
 
+use itoa::Buffer;
 use model::Answer;
+use std::io;
 use std::num::{wrapping_add_u64, wrapping_sub_u64};
 
 // A number and a space.
-pub fn say(n: u64) {
-    io::print_decimal(1, n);
-    io::write_all(1, b" ");
+pub fn say(rt: &impl Print, n: u64) -> io::Result<()> {
+    print!(rt; "{n} ")
 }
 
 // A number and the end of the line.
-pub fn say_last(n: u64) {
-    io::print_decimal(1, n);
-    io::write_all(1, b"\n");
+pub fn say_last(rt: &impl Print, n: u64) -> io::Result<()> {
+    println!(rt; "{n}")
 }
 
 // A number of digits, of which a word has 20 at most.
@@ -30,8 +30,9 @@ fn put_number(line: &mut [u8], at: usize, n: u64) -> usize
     requires { at + 20 ≤ length line.old }
     ensures { result ≤ at + 20 }
 {
-    let mut text = [0u8; 20];
-    let k = few(io::decimal(n, &mut text));
+    let mut digits = Buffer::new();
+    let text = digits.format(n).as_bytes();
+    let k = few(text.len());
     let mut i = 0;
     while i < k {
         line[at + i] = text[i];
@@ -52,25 +53,26 @@ fn put_answer(line: &mut [u8], r: Answer) -> usize
 }
 
 // A line with an answer's number and second word, by one write.
-pub fn say_answer(r: Answer) {
+pub fn say_answer(rt: &impl Print, r: Answer) -> io::Result<()> {
     let mut line = [b' '; 42];
     let k = put_answer(&mut line, r);
-    io::write_all(1, &line[..k]);
+    rt.write_all(&line[..k])
 }
 
 // Each word and a space.
-pub fn say_words(a: &[u64]) {
+pub fn say_words(rt: &impl Print, a: &[u64]) -> io::Result<()> {
     let mut i = 0;
     while i < a.len() {
-        say(a[i]);
+        say(rt, a[i])?;
         i += 1;
     }
+    Ok(())
 }
 
 // A line of words, with a space after each.
-pub fn say_line(a: &[u64]) {
-    say_words(a);
-    io::write_all(1, b"\n");
+pub fn say_line(rt: &impl Print, a: &[u64]) -> io::Result<()> {
+    say_words(rt, a)?;
+    println!(rt)
 }
 
 fn wide(x: u8) -> u64
