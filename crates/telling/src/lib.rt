@@ -1,11 +1,17 @@
 // What the programs share: numbers and words written out, words read from bytes, an arena's words mixed into one number.
-ghost use Rattle.std.specs.Prelude.{◌≡◌, ◌+◌, ◌*◌, ◌%◌, ◌^◌, ◌<◌, ◌≤◌, length};
+// Where a writing fails, part of its text may have been written; nothing else has changed.
+#![tactic(auto)]
+
+ghost use Rattle.std.specs.Prelude.{◌≡◌, ◌+◌, ◌*◌, ◌%◌, ◌^◌, ◌<◌, ◌≤◌, length, take, IfOk};
 ghost use Rattle.std.specs.Counts.{IsPrefixLen};
+ghost use Rattle.std.specs.Io.{ReadsAtMost};
+ghost use Rattle.std.specs.Io.KnownBytes.{Consumes, IsAtEnd};
 ghost use Rattle.telling.specs.Numbers.{half_in, word_in, mix_of, mix_all, around_of};
 
 use itoa::Buffer;
 use model::Answer;
 use std::io;
+use std::io::Read;
 use std::num::{wrapping_add_u64, wrapping_sub_u64};
 
 // A number and a space.
@@ -73,6 +79,24 @@ pub fn say_words(rt: &impl Print, a: &[u64]) -> io::Result<()> {
 pub fn say_line(rt: &impl Print, a: &[u64]) -> io::Result<()> {
     say_words(rt, a)?;
     println!(rt)
+}
+
+// Reads until the buffer is full or the input ends; how many bytes were read, which lie at the buffer's front. Where a reading fails, the bytes
+// that came before it are in the buffer, and how many is not told.
+pub fn read_full<R: Read>(input: &mut R, buf: &mut [u8]) -> io::Result<usize>
+    ensures bound { ReadsAtMost result buf.new }
+    ensures bytes { IfOk result (λ n. Consumes (R.remaining input.old) (R.remaining input.new) (take n buf.new)) }
+    ensures end { IfOk result (λ n. n < length buf.new → IsAtEnd (R.remaining input.new)) }
+{
+    let mut done = 0;
+    while done < buf.len() {
+        let n = input.read(&mut buf[done..])?;
+        if n == 0 {
+            return Ok(done);
+        }
+        done += n;
+    }
+    Ok(done)
 }
 
 fn wide(x: u8) -> u64
