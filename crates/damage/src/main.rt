@@ -1,6 +1,8 @@
 // Runs the checker on arenas damaged in one word at a time, for every word of a formatted arena and of a tree of three nodes with two
 // free ones, and on three arenas that are wrong in one count alone; and formatting at every length. It prints each answer's number:
 // docs/oracle/damage.py says how the stored list was made.
+#![tactic(auto)]
+
 ghost use Rattle.std.specs.Prelude.{◌≡◌, ◌+◌, ◌<◌, ◌≤◌, length, slice_index};
 ghost use Rattle.model.specs.Answer.{numbers_of};
 ghost use Rattle.damage.specs.Kinds.{digit_of, word_of, wrongs};
