@@ -1,5 +1,7 @@
 // Fills an arena to heights 0 to 3 and deletes every key, rising, falling and shuffled; mixes all words after each deletion into one number
 // and prints it with the header every so often. docs/oracle/empties.py says how the stored list was made.
+#![tactic(auto)]
+
 ghost use Rattle.std.specs.Prelude.{◌≡◌, ◌<◌, ◌≤◌, length};
 ghost use Rattle.empties.specs.Taking.{Taken};
 

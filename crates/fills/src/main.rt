@@ -1,5 +1,7 @@
 // Puts rising, falling and shuffled keys into 64 nodes until one is refused, then prints how many came in, what a present and an absent key
 // answer after that, and all words. docs/oracle/fills.py says how the stored list was made.
+#![tactic(auto)]
+
 ghost use Rattle.std.specs.Prelude.{◌≡◌, ◌<◌};
 ghost use Rattle.fills.specs.Filling.{Fills};
 

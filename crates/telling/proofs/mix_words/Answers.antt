@@ -14,14 +14,12 @@ loop-i-init c = (omega arith, refl)
 
 pub loop-i-preserved : goal.loop-i-preserved
 loop-i-preserved c =
-    let l = c in
-    let x = l.args in
+    let x = c.args in
     let o = c.loop-i-test.true in
-    (omega (arith, o), mixed-on x.a.now l.loop-i.i l.loop-i.mix c.mixed-mix.result (omega arith) c.mixed-mix.ensures ∙ l.loop-i.invariant.1)
+    (omega (arith, o), mixed-on x.a.now c.loop-i.i c.loop-i.mix c.mixed-mix.result (omega arith) c.mixed-mix.ensures ∙ c.loop-i.invariant.1)
 
 pub returns : goal.returns
 returns c =
-    let l = c in
-    let x = l.args in
-    let e : l.loop-i.i ≡ length x.a.now = omega (arith, l.loop-i.invariant.0) in
-    ap (mix_all l.loop-i.mix) (sym (ap (λ (i : ℕ). drop i x.a.now) e ∙ drop-length x.a.now)) ∙ l.loop-i.invariant.1
+    let x = c.args in
+    let e : c.loop-i.i ≡ length x.a.now = omega (arith, c.loop-i.invariant.0) in
+    ap (mix_all c.loop-i.mix) (sym (ap (λ (i : ℕ). drop i x.a.now) e ∙ drop-length x.a.now)) ∙ c.loop-i.invariant.1

@@ -14,9 +14,8 @@ with-word m n w x s r k e f g = omega (arith, k, e, f, g)
 
 pub returns : goal.returns
 returns c =
-    let t = c in
-    let a = doubled _ _ _ t.twice.ensures t.twice-2.ensures in
-    let b = doubled _ _ _ a t.twice-3.ensures in
-    let d = doubled _ _ _ b t.twice-4.ensures in
-    let e = doubled _ _ _ d t.twice-many.ensures in
+    let a = doubled _ _ _ c.twice.ensures c.twice-2.ensures in
+    let b = doubled _ _ _ a c.twice-3.ensures in
+    let d = doubled _ _ _ b c.twice-4.ensures in
+    let e = doubled _ _ _ d c.twice-many.ensures in
     with-word _ _ _ _ _ _ (omega arith) e c.wrapping_sub_u64.ensures.value c.wrapping_add_u64.ensures.value
