@@ -1,5 +1,7 @@
 // Gets keys and lists ranges on three arenas, empty, of one leaf and of three levels: every kind of bound at keys around the borders of
 // the nodes, with room for three pairs and with room for all. docs/oracle/ranges.rs says how the stored list was made.
+#![tactic(auto)]
+
 ghost use Rattle.std.specs.Prelude.{◌≡◌, ◌+◌, ◌*◌, ◌<◌, ◌≤◌, length};
 ghost use Rattle.ranges.specs.Bounds.{tried_bound};
 

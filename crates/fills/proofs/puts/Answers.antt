@@ -3,7 +3,7 @@
 use native.Mathlib.Omega.{arith}
 use mathlib.Core.Path.{refl, sym, ◌∙◌}
 use borrow.Author.Rules.{rules}
-use Rattle.fills.specs.Filling.{all_tried, no_room, came-in}
+use Rattle.fills.specs.Filling.{all_tried, no_room, came_in}
 use Rattle.fills.proofs.puts.Goals as goal
 
 pub loop-i-init : goal.loop-i-init
@@ -11,7 +11,7 @@ loop-i-init c = (search rules, λ w' r f. f)
 
 pub loop-i-preserved : goal.loop-i-preserved
 loop-i-preserved c =
-    (search rules, λ w' r f. c.loop-i.invariant.1 w' r (came-in c.put-r.result c.put-r.new.a c.around-key.result (omega arith) c.put-r.ensures (λ e. c.if-number-eq3.false (c.number.ensures ∙ e)) c.around-key.ensures.1 f))
+    (search rules, λ w' r f. c.loop-i.invariant.1 w' r (came_in c.put-r.result c.put-r.new.a c.around-key.result (omega arith) c.put-r.ensures (λ e. c.if-number-eq3.false (c.number.ensures ∙ e)) c.around-key.ensures.1 f))
 
 pub returns-after-loop-i : goal.returns-after-loop-i
 returns-after-loop-i c = c.loop-i.invariant.1 c.loop-i.a c.loop-i.i (all_tried (omega arith) refl refl)
