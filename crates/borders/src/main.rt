@@ -1,5 +1,7 @@
 // Lays arenas whose only short nodes lie on the right or the left border, repairs that border, and prints all words. docs/oracle/borders.py
 // says how the stored list and the arenas' bytes were made.
+#![tactic(auto)]
+
 ghost use Rattle.std.specs.Prelude.{◌≡◌, ◌≤◌, length};
 ghost use Rattle.model.specs.Insert.{left, right};
 ghost use Rattle.border.specs.Borders.{ShortOn, Repairs};
