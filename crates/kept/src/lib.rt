@@ -1,5 +1,7 @@
 // A cursor as the four words that a caller in C keeps: its count, where it stands (0 before the first pair, 1 at a pair, 2 past the last), the
 // node and the place. Any other number of words is refused before everything.
+#![tactic(auto)]
+
 ghost use Rattle.std.specs.Prelude.{◌≡◌, [], ◌∷◌, length, get_or};
 ghost use Rattle.model.specs.Public.{Promised};
 ghost use Rattle.model.specs.Public as promise;
@@ -121,6 +123,7 @@ pub fn keep_none(a: &[u64], changes: u64, words: &mut [u64]) -> Picked
 }
 
 // The moved cursor is written, a refused step leaves the words.
+#[tactic(auto, using(crate::proofs::Four::step_kept, crate::proofs::Four::step_moved))]
 fn keep_step(m: Moved, words: &mut [u64]) -> Picked
     requires { length words.old ≡ 4 }
     ensures { (result ≡ m.found) × (words.new ≡ step_words m.found (cursor_of m.cursor) words.old) }
