@@ -3,20 +3,19 @@
 -- Assumes nothing.
 use Prim.Native.Nat.{ℕ, zero, suc, ◌+◌, ◌-◌, ◌≤◌, ◌<◌}
 use native.Mathlib.Omega.{arith}
-use mathlib.Core.Path.{◌≡◌, refl, ap, ◌∙◌, sym, subst}
-use mathlib.Core.Bool.{true, false}
+use mathlib.Core.Path.{◌≡◌, refl, ap, ◌∙◌, sym}
+use mathlib.Core.Bool.{false}
 use mathlib.Core.List.{List, [], ◌∷◌, ◌++◌, append-nil}
 use lib.ListN.{length}
-use Rattle.model.specs.Lists.{count, one, times}
+use Rattle.model.specs.Lists.{count, times}
 use Rattle.model.specs.Layout.{least}
-use Rattle.model.specs.Tree.{Pair, Item, Node, Tree, Frame, Ctx, top, under, Whole, plug, fill, Twin, flat, has}
-use Rattle.model.specs.Nodes.{taken, untaken}
+use Rattle.model.specs.Tree.{Pair, Item, Node, Tree, Frame, Ctx, top, under, plug, Twin, flat, has}
 use Rattle.model.specs.Search.{last_edge}
 use Rattle.model.specs.Insert.{left, is_full, rise, cut}
-use Rattle.model.specs.Remove.{join, steal, staying}
+use Rattle.model.specs.Remove.{join, staying}
 use Rattle.model.proofs.Climb.{rise_fits}
 use Rattle.model.proofs.Cut.{join_cut}
-use Rattle.model.specs.Load.{Loading, opened, climb, push, push_all, begun, Bordering, short, lent, lend_last}
+use Rattle.model.specs.Load.{Loading, opened, climb, push, short, lent, lend_last}
 use Rattle.model.specs.Room.{nodes_for}
 pub use Rattle.loading.specs.Shapes.{pillar}
 use Rattle.loading.proofs.Pushing.{climb_room, pushed, count_last, Filled, push_filled}

@@ -1,16 +1,16 @@
 -- The nodes that a load takes are those that its pair count says.
 -- Assumes nothing.
 use Prim.Native.Nat.{ℕ, zero, suc, ◌+◌, ◌*◌, ◌/◌, ◌≤◌, ◌<◌}
-use native.Mathlib.Nat.{div-eq_of_lt, div-lt_self, add-mul-div_left, div-add-mod', mod-lt}
+use native.Mathlib.Nat.{div-eq_of_lt, div-lt_self, add-mul-div_left}
 use native.Mathlib.Omega.{arith}
-use mathlib.Core.Path.{◌≡◌, refl, ap, ◌∙◌, sym, subst}
+use mathlib.Core.Path.{◌≡◌, refl, ap, ◌∙◌, sym}
 use mathlib.Core.Bool.{Bool, true, false}
-use mathlib.Core.List.{List, [], ◌∷◌}
+use mathlib.Core.List.{List}
 use lib.Dec.{eqb}
 use lib.ListN.{length}
-use borrow.Author.Tests.{eqb-true, eqb-false, ne_eqb, eq-eqb}
+use borrow.Author.Tests.{eqb-true, eqb-false, ne_eqb}
 use Rattle.model.specs.Layout.{most}
-use Rattle.model.specs.Tree.{Pair, Tree, Frame, Ctx, top, under}
+use Rattle.model.specs.Tree.{Pair, Ctx, top, under}
 use Rattle.model.specs.Load.{Loading}
 use Rattle.model.specs.Room.{above, nodes_for}
 use Rattle.loading.proofs.Pushing.{Filling, Inner, RootSome, value, levels, Filled}

@@ -1,16 +1,16 @@
 -- A cut of a sound state: what stays is sound and has the keys below, what goes has the others.
 -- Assumes nothing.
-use Prim.Native.Nat.{ℕ, zero, suc, ◌+◌, ◌≤◌, ◌<◌}
+use Prim.Native.Nat.{ℕ, zero, suc, ◌+◌, ◌≤◌}
 use native.Mathlib.Omega.{arith}
-use mathlib.Core.Path.{◌≡◌, refl, ap, ◌∙◌, sym, subst}
-use mathlib.Core.List.{List, [], ◌∷◌, ◌++◌}
+use mathlib.Core.Path.{◌≡◌, ap, ◌∙◌, sym, subst}
+use mathlib.Core.List.{List, ◌++◌}
 use lib.ListN.{length}
 use Rattle.model.specs.Lists.{All, times}
 use Rattle.model.specs.Layout.{largest_count}
-use Rattle.model.specs.Tree.{Pair, Tree, Ctx, Whole, plug, before, after, flat_of, has_whole}
+use Rattle.model.specs.Tree.{Pair, Tree, Ctx, Whole, before, has_whole}
 use Rattle.model.specs.Nodes.{Grown}
 use Rattle.model.specs.Insert.{right}
-use Rattle.model.specs.Mark.{Mark, Covers}
+use Rattle.model.specs.Mark.{Covers}
 use Rattle.model.specs.Map.{Below, Rising}
 use Rattle.model.specs.Border.{fix_border}
 use Rattle.model.specs.State.{State, list}
@@ -24,7 +24,7 @@ use Rattle.model.proofs.Calls.{kept}
 use Rattle.model.proofs.Border.{Bordered, fix_flat, fix_has, fix_full, fix_sorted}
 use Rattle.model.specs.Load.{loaded_with}
 use Rattle.model.specs.Room.{nodes_for}
-use Rattle.model.specs.Parting.{path_of, trimmed, dropped, returned_all, cut_along, cut_off, part_off}
+use Rattle.model.specs.Parting.{path_of, trimmed, dropped, cut_along, cut_off, part_off}
 use Rattle.loading.proofs.Parting.{AtLeast, path_whole, path_below, path_above, path_list, trimmed_flat, trimmed_has, returned_all_lem, returned_sorted_all, trimmed_bordered, trimmed_height}
 use Rattle.loading.proofs.Loads.{load_sound}
 

@@ -1,15 +1,13 @@
 -- Joins of sound states: sound again, the list joined; three whichever neighbours are joined first; and a cut followed by a join.
 -- Assumes nothing.
-use Prim.Native.Nat.{ℕ, zero, suc, ◌+◌, ◌≤◌, ◌<◌, max}
+use Prim.Native.Nat.{ℕ, ◌≤◌, max}
 use native.Mathlib.Omega.{arith}
-use mathlib.Core.Path.{◌≡◌, refl, ap, ◌∙◌, sym, subst}
-use mathlib.Core.List.{List, [], ◌∷◌, ◌++◌}
+use mathlib.Core.Path.{◌≡◌, refl, ap, ◌∙◌, sym}
+use mathlib.Core.List.{List}
 use lib.ListN.{length}
-use Rattle.model.specs.Lists.{All}
 use Rattle.model.specs.Tree.{Pair}
 use Rattle.model.specs.Mark.{Mark, unseen, seen, higher, Covers}
-use Rattle.model.specs.Map.{Rising}
-use Rattle.model.specs.State.{State, list, formatted}
+use Rattle.model.specs.State.{State, list}
 use Rattle.model.specs.Sound.{Sound}
 use Rattle.model.proofs.Lists.{all_map}
 use Rattle.model.proofs.Marks.{covers_left, covers_right, higher_assoc}

@@ -3,21 +3,20 @@
 use Prim.Native.Nat.{ℕ, zero, suc, ◌+◌, ◌*◌, ◌/◌, ◌%◌, ◌≤◌, ◌<◌}
 use native.Mathlib.Nat.{div-add-mod', mod-lt}
 use native.Mathlib.Omega.{arith}
-use mathlib.Core.Path.{◌≡◌, refl, ap, ◌∙◌, sym, subst}
+use mathlib.Core.Path.{◌≡◌, refl, ap, ◌∙◌}
 use mathlib.Core.Bool.{Bool, true, false, cond}
 use mathlib.Core.List.{List, [], ◌∷◌, ◌++◌}
 use lib.Dec.{eqb, ltb}
 use lib.ListN.{length, length-append}
 use borrow.Author.Tests.{eqb-true, eqb-false}
 use Rattle.model.specs.Lists.{times}
-use Rattle.model.specs.Layout.{most}
-use Rattle.model.specs.Tree.{Pair, Item, Node, Tree, Whole, flat, flats, flat_of, has_whole, numbers_in, numbers}
+use Rattle.model.specs.Tree.{Item, Tree, flat, flats, numbers_in, numbers}
 use Rattle.model.specs.State.{State, list}
 use Rattle.model.specs.Sound.{Sound, AllIn, RootFull}
 use Rattle.model.proofs.Lists.{times_append, each_once, each_inside, as_many}
 use Rattle.model.proofs.Sizes.{Fitting, root_fitting}
 use Rattle.model.specs.Room.{above, nodes_for}
-use Rattle.loading.proofs.Counting.{above_none, above_some, above_is, above_enough, twelfth}
+use Rattle.loading.proofs.Counting.{above_some, above_is, above_enough, twelfth}
 use Rattle.loading.proofs.Numbers.{numbers_has}
 
 -- ---- a tree without its leaves: each is a gap then

@@ -2,24 +2,24 @@
 -- Assumes nothing.
 use Prim.Native.Nat.{ℕ, zero, suc, ◌+◌, ◌-◌, ◌≤◌, ◌<◌}
 use native.Mathlib.Omega.{arith}
-use mathlib.Core.Path.{◌≡◌, refl, ap, ◌∙◌, sym, subst}
+use mathlib.Core.Path.{◌≡◌, ap, ◌∙◌, sym, subst}
 use mathlib.Core.Logic.{⊎_elim}
-use mathlib.Core.Bool.{Bool, true, false, cond}
+use mathlib.Core.Bool.{cond}
 use mathlib.Core.List.{List, [], ◌∷◌, ◌++◌, append-nil}
 use lib.Dec.{ltb}
 use lib.ListN.{length}
-use Rattle.model.specs.Lists.{All, count, one, times}
+use Rattle.model.specs.Lists.{All, count, times}
 use Rattle.model.specs.Layout.{largest_count}
-use Rattle.model.specs.Tree.{Pair, Tree, Ctx, top, Whole, plug, flat, flat_of, before, after, has, has_ctx, has_whole}
+use Rattle.model.specs.Tree.{Pair, Tree, top, plug, flat, flat_of, before, has, has_ctx, has_whole}
 use Rattle.model.specs.Mark.{Mark, unseen, seen, Covers}
 use Rattle.model.specs.Map.{Rising}
-use Rattle.model.specs.State.{State, list}
+use Rattle.model.specs.State.{list}
 use Rattle.model.specs.Sound.{Sound}
 use Rattle.model.proofs.Lists.{below_or, same_or, one_same, one_other, bit_in, bit_out}
 use Rattle.model.proofs.Frees.{count_rises}
 use Rattle.model.proofs.Plug.{flat_plug, has_plug}
 use Rattle.model.proofs.Sizes.{FullWhole, to_full}
-use Rattle.model.specs.Load.{Loading, push_all, begun, plenty_of, plenty, last_mark, loaded_with, loaded}
+use Rattle.model.specs.Load.{Loading, push_all, begun, plenty_of, last_mark, loaded_with, loaded}
 use Rattle.model.specs.Room.{nodes_for}
 use Rattle.loading.proofs.Pushing.{up_to, up_to_suc, count_last, Filled, begun_filled, pushes_filled, filling_after}
 use Rattle.loading.proofs.Stocking.{RootPlenty, filling_plenty, down_restocked}

@@ -1,27 +1,26 @@
 -- A tree cut along the way to a leaf edge: what is left of the way stays, short on the right border only; the numbers right of it are free.
 -- Assumes nothing.
-use Prim.Native.Nat.{ℕ, zero, suc, ◌+◌, ◌≤◌, ◌<◌}
+use Prim.Native.Nat.{ℕ, ◌+◌, ◌≤◌}
 use native.Mathlib.Omega.{arith}
-use mathlib.Core.Path.{◌≡◌, refl, ap, ◌∙◌, sym, subst}
-use mathlib.Core.Bool.{Bool, true, false}
-use mathlib.Core.List.{List, [], ◌∷◌, ◌++◌, append_assoc, append-nil}
+use mathlib.Core.Path.{◌≡◌, refl, ap, ◌∙◌, sym}
+use mathlib.Core.Bool.{true, false}
+use mathlib.Core.List.{List, [], ◌∷◌, ◌++◌, append-nil}
 use lib.Dec.{leb}
 use lib.ListN.{length}
 use borrow.Author.Tests.{leb-true, leb-false, le-leb}
-use Rattle.model.specs.Lists.{All, one, times}
-use Rattle.model.specs.Layout.{most}
-use Rattle.model.specs.Tree.{Pair, Item, Node, Tree, Frame, Ctx, top, under, Whole, plug, fill, fill_first, fill_rest, flat, lefts, before, after, flat_of, has_in, has, has_ctx, has_whole, numbers_in, numbers}
+use Rattle.model.specs.Lists.{All, times}
+use Rattle.model.specs.Tree.{Pair, Tree, Ctx, top, under, Whole, plug, fill, flat, lefts, before, after, flat_of, has, has_ctx, numbers_in, numbers}
 use Rattle.model.specs.Nodes.{returned}
-use Rattle.model.specs.Search.{reaches, sink}
-use Rattle.model.specs.Insert.{left, right}
+use Rattle.model.specs.Search.{reaches}
+use Rattle.model.specs.Insert.{right}
 use Rattle.model.specs.Map.{Below, Rising}
-use Rattle.model.specs.Sound.{AllIn, Full}
+use Rattle.model.specs.Sound.{Full}
 use Rattle.model.proofs.Lists.{all_map, times_append}
 use Rattle.model.proofs.Frees.{Sorted, returned_times, returned_sorted}
-use Rattle.model.proofs.Plug.{flat_plug, has_plug, length_fill}
+use Rattle.model.proofs.Plug.{flat_plug, length_fill}
 use Rattle.model.proofs.Sizes.{FullCtx, len_most}
-use Rattle.model.proofs.Descent.{Up, up_of, Parts, sink_parts}
-use Rattle.model.proofs.Border.{LastKids, Bordered}
+use Rattle.model.proofs.Descent.{up_of, Parts, sink_parts}
+use Rattle.model.proofs.Border.{Bordered}
 use Rattle.model.specs.Parting.{path_of, trimmed, dropped, returned_all}
 use Rattle.loading.proofs.Numbers.{numbers-in, numbers_has}
 use Rattle.loading.proofs.Stocking.{last_fill}

@@ -6,14 +6,12 @@ use native.Mathlib.Omega.{arith}
 use mathlib.Core.Path.{◌≡◌, refl, ap, ◌∙◌, sym, subst}
 use mathlib.Core.Bool.{Bool, true, false}
 use mathlib.Core.List.{List, [], ◌∷◌, ◌++◌, append_assoc, append-nil}
-use lib.Dec.{leb}
 use lib.ListN.{length, length-append}
 use borrow.Author.Tests.{leb-true, leb-false}
 use Rattle.model.specs.Lists.{count, one, times}
 use Rattle.model.specs.Layout.{most}
-use Rattle.model.specs.Tree.{Pair, Item, Node, Tree, Frame, Ctx, top, under, Whole, plug, fill, flat, flats, lefts, before, after, flat_of, has_in, has, has_ctx}
+use Rattle.model.specs.Tree.{Pair, Tree, Frame, Ctx, top, under, fill, flat, lefts, before, after, has, has_ctx}
 use Rattle.model.specs.Insert.{is_full}
-use Rattle.model.specs.Sound.{AllIn}
 use Rattle.model.proofs.Plug.{woven_fill, length_fill, has_fill}
 use Rattle.model.proofs.Sizes.{fill_parts}
 use Rattle.model.specs.Load.{Loading, opened, climb, push, push_all, begun}

@@ -1,23 +1,23 @@
 -- The right border stocked to 5 from neighbours that have 11: the same list and numbers, and sound sizes.
 -- Assumes nothing.
-use Prim.Native.Nat.{ℕ, zero, suc, ◌+◌, ◌-◌, ◌≤◌}
+use Prim.Native.Nat.{ℕ, zero, suc, ◌+◌, ◌≤◌}
 use native.Mathlib.Omega.{arith}
-use mathlib.Core.Path.{◌≡◌, refl, ap, ◌∙◌, sym, subst}
+use mathlib.Core.Path.{◌≡◌, ap, ◌∙◌, sym}
 use mathlib.Core.List.{List, [], ◌∷◌, ◌++◌, append_assoc, append-nil}
 use lib.ListN.{length}
 use Rattle.model.specs.Lists.{one}
 use Rattle.model.specs.Layout.{least, most}
-use Rattle.model.specs.Tree.{Pair, Item, Node, Tree, Frame, Ctx, top, under, Whole, plug, fill, fill_first, fill_rest, Twin, flat, flats, lefts, before, after, flat_of, has_in, has_node, has, has_ctx, has_whole}
-use Rattle.model.specs.Insert.{left, right, cut}
-use Rattle.model.specs.Remove.{join, staying, steal}
+use Rattle.model.specs.Tree.{Pair, Item, Node, Tree, Ctx, top, under, Whole, plug, fill, fill_first, fill_rest, Twin, flat, flats, lefts, before, after, flat_of, has_in, has_node, has, has_ctx, has_whole}
+use Rattle.model.specs.Insert.{left, right}
+use Rattle.model.specs.Remove.{join, staying}
 use Rattle.model.specs.Sound.{AllIn, Full}
 use Rattle.model.proofs.Lists.{all_map}
 use Rattle.model.proofs.Plug.{woven, flat_plug, has_plug, length_fill}
-use Rattle.model.proofs.Sizes.{RootLen, Len, FullCtx, FullWhole, node_fits, plug_full, gaps_full, len_some, len_most}
+use Rattle.model.proofs.Sizes.{RootLen, Len, FullCtx, FullWhole, node_fits, plug_full, gaps_full, len_some}
 use Rattle.model.proofs.Cut.{join_flat, cut_flat, has_join, has_cut}
 use Rattle.model.proofs.Balance.{Stocked, steal_place, steal_lengths}
 use Rattle.model.proofs.Border.{LastKids, end_steal}
-use Rattle.model.specs.Load.{Bordering, short, lent, lend_last, plenty_down}
+use Rattle.model.specs.Load.{Bordering, short, lend_last, plenty_down}
 pub use Rattle.loading.specs.Shapes.{Perfect, RootSome, Inner, Filling, Plenty, RootPlenty}
 
 -- ---- a border tree before it is stocked

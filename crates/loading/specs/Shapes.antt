@@ -1,8 +1,8 @@
 -- The shape of a load under way: perfect trees left of the way to the last leaf, nothing right of it; and an empty right side.
 -- Assumes nothing.
-use Rattle.std.specs.Prelude.{ℕ, zero, suc, ◌+◌, ◌≤◌, ◌≡◌, List, [], length}
+use Rattle.std.specs.Prelude.{ℕ, zero, suc, ◌+◌, ◌≤◌, ◌≡◌, [], length}
 use Rattle.model.specs.Layout.{most}
-use Rattle.model.specs.Tree.{Tree, Frame, Ctx, top, under}
+use Rattle.model.specs.Tree.{Tree, Ctx, top, under}
 use Rattle.model.specs.Sound.{AllIn}
 use Rattle.model.specs.Sizes.{RootLen, LastKids}
 

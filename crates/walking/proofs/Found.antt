@@ -1,14 +1,14 @@
 -- What each move finds in the plain list.
 -- Assumes nothing.
-use Prim.Native.Nat.{ℕ, zero, suc, ◌<◌}
+use Prim.Native.Nat.{ℕ}
 use native.Mathlib.Omega.{arith}
 use mathlib.Core.Path.{◌≡◌, refl, sym, ap, ◌∙◌, subst}
 use mathlib.Core.Logic.{◌⊎◌, inl, inr}
-use mathlib.Core.Bool.{Bool, true, false, cond, ◌&&◌}
+use mathlib.Core.Bool.{Bool, true, false, cond}
 use mathlib.Core.List.{List, [], ◌∷◌, ◌++◌, map, map-append, reverse}
 use mathlib.Core.Option.{Option, some, none}
-use lib.Dec.{eqb, ltb}
-use borrow.Author.Tests.{le-ltb, lt-ltb, eqb-true}
+use lib.Dec.{eqb}
+use borrow.Author.Tests.{le-ltb, lt-ltb}
 use Rattle.model.specs.declared.Answer.TheVariants.{StaleCursor}
 use Rattle.model.specs.declared.Range.{Range}
 use Rattle.model.specs.declared.SearchBound.{SearchBound}
@@ -16,18 +16,18 @@ use Rattle.model.specs.declared.SearchBound.TheVariants.{Excluded, AllIncluded}
 use Rattle.model.specs.Lists.{All}
 use Rattle.model.specs.Tree.{Pair}
 use Rattle.model.specs.Range.{starts}
-use Rattle.model.specs.Map.{Below, Above, Rising, range, nth, picked}
+use Rattle.model.specs.Map.{Below, Above, Rising, range}
 use Rattle.model.specs.Answer.{numbers_of}
 use Rattle.model.specs.State.{State, list}
 use Rattle.model.specs.Promise.{Holds}
-use Rattle.model.specs.Cursor.{Stop, Stand, before, on, past, Cursor, Moved, Post, posts, PairAt, pair_at, moved, first, last, from, seek, onward, ahead, turned, stale, step, next, previous}
+use Rattle.model.specs.Cursor.{Stop, Stand, before, on, past, Cursor, Moved, Post, posts, pair_at, moved, first, last, from, seek, ahead, turned, stale, step, next, previous}
 use Rattle.model.proofs.Lists.{all_left, all_right}
 use Rattle.model.proofs.Rising.{rising_below, rising_above}
 use Rattle.walking.specs.Walking.{Stale, Refuses}
-use Rattle.walking.specs.Found.{KeyAt, first_of, last_of, sought_in, next_of, previous_of, LeftOn, Lands}
+use Rattle.walking.specs.Found.{KeyAt, first_of, last_of, sought_in, next_of, previous_of, Lands}
 use Rattle.walking.proofs.Posts.{pair_of, posts_pairs, Stands, all_stand, all_reverse, onward_rising, onward_falling}
 use Rattle.walking.proofs.Live.{live_post}
-use Rattle.walking.proofs.Walks.{map_reverse, falling_pairs, found_pair, first_admitted, exactly_stale}
+use Rattle.walking.proofs.Walks.{map_reverse, falling_pairs, found_pair, exactly_stale}
 
 -- a move to the first of these
 lands : {w : List ℕ} (n : ℕ) (end : Stand) (ps : List Post) → All (Stands w) ps → Lands w n end (first_of (map pair_of ps)) (moved n end ps)

@@ -1,19 +1,18 @@
 -- A place that holds a pair by the words is that of a pair in the tree.
 -- Assumes nothing.
-use Prim.Native.Nat.{ℕ, zero, suc, ◌+◌, ◌<◌, ◌≤◌}
+use Prim.Native.Nat.{ℕ, zero, suc, ◌<◌}
 use native.Mathlib.Nat.{le_of_suc-le-suc}
 use native.Mathlib.Omega.{arith}
-use mathlib.Core.Path.{◌≡◌, refl, sym, ap, ap₂, ◌∙◌, subst}
+use mathlib.Core.Path.{◌≡◌, refl, sym, ap, ◌∙◌}
 use mathlib.Core.List.{List, [], ◌∷◌, ◌++◌}
 use lib.Dec.{lit<}
 use lib.ListN.{length}
 use Rattle.model.specs.Lists.{All}
-use Rattle.model.specs.Layout.{header, word_at, count_word, state_word, length_word, free, NodeVal, nth, none}
-use Rattle.model.specs.Tree.{Pair, Item, Node, Tree, Frame, Ctx, top, under, Whole, plug, fill}
+use Rattle.model.specs.Layout.{word_at, count_word, state_word, free, NodeVal, nth, none}
+use Rattle.model.specs.Tree.{Item, Tree, Ctx, top, under, plug, fill}
 use Rattle.model.specs.Range.{open_at}
 use Rattle.model.specs.State.{State, At}
 use Rattle.model.specs.Words.{Block, blocks_of, blocks, chain_blocks, blocks_in, nodes_in}
-use Rattle.model.specs.Edges.{down_at, hole_at}
 use Rattle.model.specs.Promise.{Holds}
 use Rattle.model.specs.Cursor.{Stop, Post, posts, PairAt, pair_at}
 use Rattle.model.proofs.Lists.{all_append}

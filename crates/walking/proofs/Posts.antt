@@ -1,28 +1,28 @@
 -- The pairs with their places: about a hole, in the words, and no place twice.
 -- Assumes nothing.
-use Prim.Native.Nat.{ℕ, zero, suc, ◌+◌, ◌<◌, ◌≤◌}
+use Prim.Native.Nat.{ℕ, zero, suc, ◌+◌, ◌<◌}
 use native.Mathlib.Omega.{arith}
 use mathlib.Core.Path.{◌≡◌, refl, sym, ap, ap₂, ◌∙◌, subst}
-use mathlib.Core.Bool.{Bool, true, false, cond, ◌&&◌}
+use mathlib.Core.Bool.{Bool, true, false, ◌&&◌}
 use mathlib.Core.List.{List, [], ◌∷◌, ◌++◌, map, map-append, append_assoc, append-nil, reverse, reverse_aux, reverse-append, reverse-cons}
-use mathlib.Core.Option.{Option, some, none}
+use mathlib.Core.Option.{some}
 use lib.Dec.{eqb, lit<}
-use lib.ListN.{length, get_or, length-append, length-map}
-use borrow.Author.Tests.{eqb-true, eqb-false, eq-eqb}
+use lib.ListN.{length, get_or}
+use borrow.Author.Tests.{eqb-true, eq-eqb}
 use Rattle.model.specs.Lists.{All}
-use Rattle.model.specs.Layout.{header, word_at, count_word, state_word, length_word, keys_word, values_word, free, most, key_of, val_of}
-use Rattle.model.specs.Tree.{Pair, Item, Node, Tree, Frame, Ctx, top, under, Whole, plug, fill, fill_first, fill_rest, flat, flats, lefts, before, after, flat_of}
+use Rattle.model.specs.Layout.{count_word, free, most, key_of, val_of}
+use Rattle.model.specs.Tree.{Pair, Item, Tree, Ctx, top, under, Whole, plug, fill, fill_first, fill_rest, flat, flats, lefts, before, after}
 use Rattle.model.specs.Map.{Rising, Below, Above}
 use Rattle.model.specs.State.{State, list}
 use Rattle.model.specs.Words.{kind, pairs}
 use Rattle.model.specs.Promise.{Holds}
 use Rattle.model.specs.Cursor.{Stop, Post, posts_from, posts_in, posts, PairAt, pair_at, same_stop, onward}
-use Rattle.model.proofs.Lists.{all_append, all_left, all_right, all_both}
+use Rattle.model.proofs.Lists.{all_append, all_left, all_right}
 use Rattle.model.proofs.Rising.{rising_below, rising_above}
 use Rattle.model.proofs.Plug.{length_fill}
 use Rattle.model.proofs.Held.{words_long}
 use Rattle.model.proofs.Header.{header_is}
-use Rattle.model.proofs.Standing.{NodeAt, node_at, length_at, short_at, key_at, value_at, fill_at}
+use Rattle.model.proofs.Standing.{node_at, length_at, short_at, key_at, value_at, fill_at}
 
 -- the pair of a post
 abbrev pub pair_of : Post → Pair

@@ -1,26 +1,23 @@
 -- Where the steps of a walk lead among the posts: each move of the cursor is where its step in the tree ends.
 -- Assumes nothing.
-use Prim.Native.Nat.{ℕ, zero, suc, ◌+◌}
+use Prim.Native.Nat.{ℕ, suc, ◌+◌}
 use native.Mathlib.Omega.{arith}
 use mathlib.Core.Path.{◌≡◌, refl, sym, ap, ◌∙◌, subst}
 use mathlib.Core.Bool.{true, false}
 use mathlib.Core.List.{List, [], ◌∷◌, ◌++◌, map, append_assoc, append-nil, reverse}
-use mathlib.Core.Option.{some}
-use lib.Dec.{eqb}
 use lib.ListN.{length, length-append, length-map}
 use borrow.Author.Tests.{eq-eqb}
 use Rattle.model.specs.declared.SearchBound.{SearchBound}
 use Rattle.model.specs.declared.SearchBound.TheVariants.{AllIncluded}
 use Rattle.model.specs.Lists.{All}
-use Rattle.model.specs.Tree.{Pair, Item, Tree, Ctx, top, Whole, plug, fill, flat, flats, lefts, before, after}
+use Rattle.model.specs.Tree.{Pair, Item, Tree, Ctx, top, Whole, plug, fill, flat, lefts, before}
 use Rattle.model.specs.Search.{Spot, at, gap, sink, last_edge}
 use Rattle.model.specs.Range.{starts}
 use Rattle.model.specs.Walk.{next_kv, back_kv, next_edge, back_edge}
-use Rattle.model.specs.State.{State, list}
+use Rattle.model.specs.State.{State}
 use Rattle.model.specs.Promise.{Holds}
 use Rattle.model.specs.Cursor as on
 use Rattle.model.specs.Cursor.{Stand, before as Before, past, Moved, Post, posts, moved, from}
-use Rattle.model.proofs.Lists.{all_left}
 use Rattle.model.proofs.Places.{append_parts}
 use Rattle.model.proofs.Descent.{last_before}
 use Rattle.model.proofs.Walks.{Ahead, Behind, next_kv_lem, back_kv_lem, next_edge_lem, back_edge_lem, start_parts}

@@ -1,19 +1,16 @@
 -- The walking cursor: every pair once, there and back, and when a step is refused.
 -- Assumes nothing.
-use Prim.Native.Nat.{ℕ, zero, suc}
+use Prim.Native.Nat.{ℕ, suc}
 use native.Mathlib.Omega.{arith}
 use mathlib.Core.Path.{◌≡◌, refl, sym, ap, ◌∙◌, subst}
-use mathlib.Core.Logic.{◌⊎◌, inl, inr, ◌↔◌}
-use mathlib.Core.Bool.{Bool, true, false, cond}
+use mathlib.Core.Logic.{inl, inr}
+use mathlib.Core.Bool.{Bool, true, false}
 use mathlib.Core.List.{List, [], ◌∷◌, ◌++◌, map, map-append, append_assoc, reverse, reverse-cons, reverse-reverse}
 use mathlib.Core.Option.{Option, some, none}
 use lib.Dec.{eqb}
 use lib.ListN.{length, length-map, length-reverse}
-use borrow.Author.Tests.{eq-eqb, ne_eqb, eqb-true, eqb-false}
-use Rattle.model.specs.declared.Answer.{Answer}
+use borrow.Author.Tests.{eq-eqb, eqb-true, eqb-false}
 use Rattle.model.specs.declared.Answer.TheVariants.{StaleCursor}
-use Rattle.model.specs.declared.Picked.{Picked}
-use Rattle.model.specs.declared.Range.{Range}
 use Rattle.model.specs.declared.SearchBound.{SearchBound}
 use Rattle.model.specs.declared.SearchBound.TheVariants.{AllIncluded}
 use Rattle.model.specs.Lists.{All}
@@ -23,8 +20,8 @@ use Rattle.model.specs.Map.{range, nth, picked}
 use Rattle.model.specs.Answer.{numbers_of}
 use Rattle.model.specs.State.{State, list}
 use Rattle.model.specs.Promise.{Holds}
-use Rattle.model.specs.Cursor.{Stop, Stand, before, on, past, Cursor, Moved, Post, posts, PairAt, pair_at, moved, first, last, from, seek, same_stop, onward, ahead, turned, stale, step, next, previous}
-use Rattle.walking.specs.Walking.{steps, tour, each, standing, EveryRising, EveryFalling, Returns, ThereAndBack, Finds, FirstAdmitted, NoPair, Stale, Refuses, ExactlyStale, AtTheEnds, Ends}
+use Rattle.model.specs.Cursor.{Stop, Stand, before, on, past, Cursor, Moved, Post, posts, PairAt, pair_at, moved, first, last, from, same_stop, onward, ahead, turned, step, previous}
+use Rattle.walking.specs.Walking.{steps, tour, each, standing, EveryRising, EveryFalling, ThereAndBack, FirstAdmitted, NoPair, Stale, Refuses, ExactlyStale, Ends}
 use Rattle.walking.proofs.Posts.{pair_of, posts_pairs, Stands, all_stand, same_stop_lem, reverse_split, all_reverse, onward_rising, onward_falling}
 use Rattle.walking.proofs.Live.{live_post}
 

@@ -2,12 +2,11 @@
 -- Assumes nothing.
 use Rattle.std.specs.Prelude.{ℕ, ◌≡◌, List, reverse}
 use Rattle.std.proofs.Math.Option.{Option, some, none}
-use Rattle.model.specs.declared.Range.{Range}
 use Rattle.model.specs.declared.SearchBound.{SearchBound}
 use Rattle.model.specs.declared.SearchBound.TheVariants.{Excluded, AllIncluded}
 use Rattle.model.specs.Tree.{Pair}
 use Rattle.model.specs.Map.{range, nth, picked}
-use Rattle.model.specs.Cursor.{Stop, Stand, before, on, past, Cursor, Moved, PairAt, pair_at}
+use Rattle.model.specs.Cursor.{Stop, Stand, before, on, past, Moved, PairAt, pair_at}
 
 -- a plain list knows no places: of a cursor at a pair it is told the key there, which the words have
 abbrev pub KeyAt : List ℕ → Stand → ℕ → Type 0

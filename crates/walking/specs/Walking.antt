@@ -9,7 +9,6 @@ use Rattle.model.specs.declared.SearchBound.TheVariants.{AllIncluded}
 use Rattle.model.specs.Tree.{Pair}
 use Rattle.model.specs.Map.{Rising, range, nth, picked}
 use Rattle.model.specs.State.{State, list}
-use Rattle.model.specs.Sound.{Sound}
 use Rattle.model.specs.Promise.{Holds}
 use Rattle.model.specs.Cursor.{Stop, Stand, before, on, past, Cursor, Moved, PairAt, pair_at, first, last, seek, next, previous}
 
