@@ -1,13 +1,12 @@
 -- What the repair of a border leaves: a sound state with the same pairs in order, and its words.
 -- Assumes nothing.
-use Prim.Native.Nat.{ℕ, zero, suc, ◌+◌, ◌≤◌}
+use Prim.Native.Nat.{ℕ, zero, suc, ◌≤◌}
 use native.Mathlib.Omega.{arith}
 use mathlib.Core.Path.{◌≡◌, refl, ap, ◌∙◌, sym, subst}
 use mathlib.Core.List.{List}
 use lib.ListN.{length}
-use Rattle.model.specs.Lists.{All}
-use Rattle.model.specs.Tree.{Pair, Tree, Whole, flat_of, has_whole}
-use Rattle.model.specs.Mark.{Covers, seen_of, mark_of}
+use Rattle.model.specs.Tree.{Tree, has_whole}
+use Rattle.model.specs.Mark.{seen_of, mark_of}
 use Rattle.model.specs.Insert.{Side}
 use Rattle.model.specs.Border.{fix_border}
 use Rattle.model.specs.State.{State, list}

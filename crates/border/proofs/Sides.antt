@@ -4,16 +4,16 @@ use Prim.Native.Nat.{ℕ, zero, suc, ◌+◌, ◌-◌, ◌≤◌, ◌<◌}
 use native.Mathlib.Numerals.{sub-one}
 use native.Mathlib.Omega.{arith}
 use mathlib.Core.Path.{◌≡◌, refl, ap, ◌∙◌, sym, subst}
-use mathlib.Core.Bool.{Bool, true, false}
+use mathlib.Core.Bool.{true, false}
 use mathlib.Core.List.{List, [], ◌∷◌}
 use lib.ListN.{length}
 use borrow.Author.Tests.{leb-false}
 use Rattle.model.specs.Layout.{least, most, header, root_word, height_word, word_at, length_word, edges_word}
-use Rattle.model.specs.Tree.{Pair, Item, Node, Tree, Frame, Ctx, top, under, plug, fill, Twin}
+use Rattle.model.specs.Tree.{Item, Node, Tree, Frame, Ctx, top, under, plug, fill, Twin}
 use Rattle.model.specs.Nodes.{returned, Grown}
 use Rattle.model.specs.Insert.{Side, left, right, cut}
-use Rattle.model.specs.Remove.{join, can_merge, staying, steal, beside_left, beside_right, Balanced, merged, moved, moved_to, balance}
-use Rattle.model.specs.Border.{lacks, stock_last, stock_first, stock, fix_down}
+use Rattle.model.specs.Remove.{join, can_merge, steal, beside_left, beside_right, merged, moved, balance}
+use Rattle.model.specs.Border.{lacks, stock_last, stock, fix_down}
 use Rattle.model.proofs.Plug.{length_fill}
 use Rattle.model.proofs.Balance.{balance_merged, balance_moved, steal_lengths}
 use Rattle.model.specs.Remove.{lender, taker}
@@ -25,11 +25,11 @@ use Rattle.standing.specs.Standing.{Hole}
 use Rattle.standing.proofs.Scenes.{zoom-in}
 use Rattle.shrinking.proofs.Steps.{beside_high, beside_low, hole_low, hole_high}
 use Rattle.fix.specs.declared.BalancingContext.{BalancingContext}
-use Rattle.standing.specs.Heads.{Rest, HoleIn, ClosedIn}
+use Rattle.standing.specs.Heads.{Rest, HoleIn}
 use Rattle.fix.proofs.Holes.{closed_in, node_within, node_long, node_most, left_sibling, right_sibling, own_edge}
 use Rattle.fix.specs.Repairs.{Neighbours, MergeCall, Stealing, StealCall}
 use Rattle.fix.proofs.Balances.{word_left, word_right}
-use Rattle.border.specs.Borders.{Some, Rooted, Topped, Descending, DescendsIn, down}
+use Rattle.border.specs.Borders.{Rooted, Topped, Descending, DescendsIn, down}
 use Rattle.border.proofs.Tops.{some_pairs, root_word_is, height_word_is, rooted_of, plug_some}
 
 -- ---- the border child of two neighbours, at the side s: the parent with its hole there

@@ -1,12 +1,12 @@
 -- A root and empty tops, in words.
 -- Assumes nothing.
-use Prim.Native.Nat.{ℕ, zero, suc, ◌+◌, ◌≤◌, ◌<◌}
+use Prim.Native.Nat.{ℕ, zero, suc, ◌≤◌, ◌<◌}
 use native.Mathlib.Omega.{arith}
 use mathlib.Core.Path.{◌≡◌, refl, ap, ◌∙◌, sym, subst}
 use mathlib.Core.List.{List, [], ◌∷◌}
 use lib.ListN.{length}
 use Rattle.model.specs.Layout.{base, header, root_word, height_word, word_at, length_word}
-use Rattle.model.specs.Tree.{Item, Tree, Ctx, top, under, Whole, plug, fill}
+use Rattle.model.specs.Tree.{Item, Tree, Ctx, top, under, plug, fill}
 use Rattle.model.specs.Nodes.{returned, Grown}
 use Rattle.model.specs.Border.{drop_tops}
 use Rattle.model.specs.Remove.{pop}

@@ -2,8 +2,8 @@
 -- Assumes nothing.
 use Prim.Native.Nat.{ℕ, ◌<◌}
 use native.Mathlib.Omega.{arith}
-use mathlib.Core.Path.{◌≡◌, refl, sym, ap, subst, fun_ext, ◌∙◌}
-use mathlib.Core.Logic.{◌⊎◌, inl, inr, ⊎_elim}
+use mathlib.Core.Path.{◌≡◌, refl, sym, ap, subst, ◌∙◌}
+use mathlib.Core.Logic.{inl, inr, ⊎_elim}
 use mathlib.Core.Bool.{Bool, true, false}
 use mathlib.Core.List.{List, [], ◌∷◌}
 use mathlib.Core.Option.{Option, some, none}
@@ -38,12 +38,11 @@ use Rattle.model.proofs.Backward.{one_state, backward}
 use Rattle.model.proofs.Unique.{one_format, one_listing, one_tell, one_at, one_batch, one_restore, one_load, one_walk}
 use Rattle.model.specs.Cursor as cursor
 use Rattle.model.specs.Cursor.{Stand, before, past, Cursor, Moved}
-use Rattle.walking.specs.Walking.{Stale}
-use Rattle.walking.specs.Found.{KeyAt, first_of, last_of, sought_in, next_of, previous_of, LeftOn, Lands}
+use Rattle.walking.specs.Found.{first_of, last_of, sought_in, next_of, previous_of, LeftOn, Lands}
 use Rattle.walking.proofs.Found.{first_lands, last_lands, seek_lands, Stepped, next_ends, previous_ends}
 use Rattle.model.proofs.Upgrades.{one_upgrade}
 use Rattle.loading.proofs.Loads.{load_list, loaded_sound}
-use Rattle.demands.specs.Plain.{Plain, only, ordered, ordered_all, put_to, get_from, delete_from, reserve_on, room_by, rooms_by}
+use Rattle.demands.specs.Plain.{only, ordered, ordered_all, put_to, get_from, delete_from, reserve_on, room_by, rooms_by}
 use Rattle.demands.specs.Stored.{stored, held}
 use Rattle.demands.specs.Call.{refusal, Call, made, ByMap, Refused, Did}
 use Rattle.demands.specs.Calls as call

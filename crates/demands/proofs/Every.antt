@@ -11,26 +11,25 @@ use lib.ListN.{length}
 use Rattle.model.specs.declared.Answer.{Answer}
 use Rattle.model.specs.declared.Layout.TheVariants.{Format2}
 use Rattle.model.specs.Lists.{All}
-use Rattle.model.specs.Layout.{base, header, word_at, count_word, root_word, pairs_word, free_word, first_free_word, seen_word, mark_word, state_word, leaf, least, most, key_of}
+use Rattle.model.specs.Layout.{base, header, word_at, count_word, root_word, pairs_word, free_word, first_free_word, state_word, leaf, least, most, key_of}
 use Rattle.model.specs.Mark.{Mark, unseen, seen_of, mark_of, mark_by, stored_mark}
-use Rattle.model.specs.State.{list as list_of}
 use Rattle.model.specs.Words.{kind}
 use Rattle.model.specs.WellFormed.{length_at, edge_at, Reached, reach_by, reach, reached, WellFormed}
 use Rattle.model.specs.Promise.{Refusal, Ends}
 use Rattle.model.proofs.Lists.{all_map, all_joined}
 use Rattle.model.proofs.Parts.{chain_length, counted}
-use Rattle.model.proofs.Decode.{state_of, state_keys}
+use Rattle.model.proofs.Decode.{state_keys}
 use Rattle.model.proofs.Forward.{forward}
 use Rattle.demands.specs.Plain.{Plain, empty, bringing, Made, Spent, Raises, Spending}
 use Rattle.demands.specs.Stored.{held}
-use Rattle.demands.specs.Call.{Speech, Call, given, made, Unchanged, Refused, Did, ByMap}
+use Rattle.demands.specs.Call.{Speech, Call, given, made, Unchanged, Refused, Did}
 use Rattle.demands.specs.Public.{Public, format, check, get, put, delete, reserve, order, list, rank, count, at, batch, restore, upgrade, load, cut_first, cut_second, join_first, join_second, first, last, seek, next, previous}
 use Rattle.demands.specs.History.{Turn, Run, Standing, after, after_all, Kept, NotLower}
 use Rattle.demands.specs.Demands.{AsTheMap, AnyHistory, OneEnd}
 use Rattle.model.proofs.Header.{header_is, seen_is, mark_is, mark_by_lem, stored_mark_is}
 use Rattle.demands.proofs.Reading.{stored_is}
 use Rattle.model.proofs.Ends.{both_ways}
-use Rattle.demands.proofs.Marks.{spending_none, spending_more, mark_raises, NotBelow, not_below}
+use Rattle.demands.proofs.Marks.{spending_none, spending_more, mark_raises, not_below}
 use Rattle.demands.proofs.Lawful.{all_refused, Lawful}
 use Rattle.demands.proofs.Calls as calls
 use Rattle.demands.proofs.Both as both

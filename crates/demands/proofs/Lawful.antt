@@ -1,8 +1,7 @@
 -- What is to be proved of a call, and how that of a call on a state is met.
 -- Assumes nothing.
 use Prim.Native.Nat.{ℕ}
-use native.Mathlib.Omega.{arith}
-use mathlib.Core.Path.{◌≡◌, refl, sym, ap, subst, ◌∙◌}
+use mathlib.Core.Path.{◌≡◌, refl, sym, ap, ◌∙◌}
 use mathlib.Core.Bool.{Bool, true, false, ◌&&◌}
 use mathlib.Core.Logic.{inl, inr}
 use mathlib.Core.List.{List, [], ◌∷◌}
@@ -21,7 +20,7 @@ use Rattle.model.proofs.Backward.{backward}
 use Rattle.model.proofs.Unique.{one_call}
 use Rattle.demands.specs.Plain.{Plain, Made, Raises}
 use Rattle.demands.specs.Stored.{held}
-use Rattle.demands.specs.Call.{Speech, refusal, in_answer, Call, given, Unchanged, Refused, Did, ByMap}
+use Rattle.demands.specs.Call.{Speech, in_answer, Call, given, Refused, Did, ByMap}
 use Rattle.demands.proofs.Reading.{plain_of, held_is}
 use Rattle.demands.proofs.Steps.{Meets}
 

@@ -1,20 +1,19 @@
 -- A short node and its sibling, in words: what each call of the store asks, and what the words are after it.
 -- Assumes nothing.
-use Prim.Native.Nat.{ℕ, zero, suc, ◌+◌, ◌-◌, pred, ◌≤◌, ◌<◌}
+use Prim.Native.Nat.{ℕ, suc, ◌+◌, ◌-◌, pred, ◌≤◌, ◌<◌}
 use native.Mathlib.Omega.{arith}
 use mathlib.Core.Path.{◌≡◌, refl, ap, ◌∙◌, sym, subst}
-use mathlib.Core.Bool.{Bool, true, false}
+use mathlib.Core.Bool.{true, false}
 use mathlib.Core.List.{List, [], ◌∷◌}
 use lib.Dec.{leb}
 use lib.ListN.{length}
 use borrow.Author.Tests.{leb-true, leb-false, le-leb, lt-leb}
 use Rattle.model.specs.Layout.{least, most, header, count_word, free_word, word_at, length_word, NodeVal, nth, Arena}
-use Rattle.model.specs.Tree.{Pair, Item, Node, Tree, Frame, Ctx, top, under, plug, fill, Twin}
+use Rattle.model.specs.Tree.{Item, Tree, Frame, Ctx, top, under, plug, fill, Twin}
 use Rattle.model.specs.Lists.{times}
 use Rattle.model.specs.Nodes.{returned, Grown}
-use Rattle.model.specs.Words.{root_no}
 use Rattle.model.specs.Insert.{Side, left, right}
-use Rattle.model.specs.Remove.{join, can_merge, staying, steal, beside_left, beside_right, mend, shrink}
+use Rattle.model.specs.Remove.{join, can_merge, staying, steal, beside_left, beside_right, shrink}
 use Rattle.model.proofs.Frees.{returned_length}
 use Rattle.model.proofs.Plug.{length_fill}
 use Rattle.model.proofs.Sizes.{Len, FullCtx, Short, len_short, len_some}
@@ -28,11 +27,9 @@ use Rattle.balance.specs.Moves.{merge_nodes, MergeReady, Mergeable, move_nodes, 
 use Rattle.standing.specs.Standing.{root_of, Beside}
 use Rattle.shrinking.proofs.Steps.{left_in, right-in, left_long, right_long, merge_ready, lends_left, lends_right, merge_long, merge_step, move_long, move_step, beside_low, beside_high, hole_low, hole_high}
 use Rattle.fix.specs.declared.BalancingContext.{BalancingContext}
-use Rattle.fix.specs.declared.ParentKv.{ParentKv}
 use Rattle.fix.specs.declared.ParentKv.TheVariants.{Left, Right, Root}
 use Rattle.standing.specs.Heads.{Rest, head_words, top_of, HoleIn, ClosedIn}
 use Rattle.fix.specs.Repairs.{context_of, Neighbours, Merges, MergeCall, Stealing, StealCall}
-use Rattle.model.proofs.Lists.{one_same, one_other}
 use Rattle.balance.specs.Moves.{Shaped}
 use Rattle.standing.specs.Standing.{Hole}
 use Rattle.standing.specs.Totals.{due, TotalsBut, recount}

@@ -1,20 +1,18 @@
 -- Which sibling is chosen, by the words that the code reads.
 -- Assumes nothing.
-use Prim.Native.Nat.{ℕ, zero, suc, ◌+◌, ◌-◌, ◌≤◌, ◌<◌}
+use Prim.Native.Nat.{ℕ, suc, ◌+◌, ◌-◌, ◌≤◌, ◌<◌}
 use native.Mathlib.Omega.{arith}
-use mathlib.Core.Path.{◌≡◌, refl, ap, ◌∙◌, sym, subst}
+use mathlib.Core.Path.{◌≡◌, refl, ◌∙◌, sym}
 use mathlib.Core.List.{List, [], ◌∷◌}
 use lib.ListN.{length}
 use Rattle.model.specs.Layout.{most, word_at, length_word, parent_word, place_word, edges_word}
-use Rattle.model.specs.Tree.{Item, Node, Tree, Frame, Ctx, top, under}
+use Rattle.model.specs.Tree.{Item, Tree, Ctx, top, under}
 use Rattle.model.specs.Nodes.{Grown}
 use Rattle.model.proofs.Sizes.{FullCtx, len_some}
 use Rattle.node.specs.declared.NodeNo.{NodeNo}
 use Rattle.node.specs.declared.Place.{Place}
-use Rattle.node.specs.declared.Ascent.{Ascent}
 use Rattle.node.specs.declared.Ascent.TheVariants as ascent
 use Rattle.node.specs.Reading.{Within, ascent_of}
-use Rattle.fix.specs.declared.ParentKv.{ParentKv}
 use Rattle.fix.specs.declared.ParentKv.TheVariants.{Left, Right, Root}
 use Rattle.standing.specs.Heads.{Rest}
 use Rattle.standing.specs.Heads.{HoleIn}

@@ -1,13 +1,13 @@
 -- A root left without pairs: an internal one is taken off, a leaf stays.
 -- Assumes nothing.
-use Prim.Native.Nat.{ℕ, zero, suc, ◌-◌, pred, ◌≤◌, ◌<◌}
+use Prim.Native.Nat.{ℕ, zero, suc, ◌-◌, ◌<◌}
 use native.Mathlib.Omega.{arith}
 use mathlib.Core.Path.{◌≡◌, refl, ap, ◌∙◌, sym, subst}
 use mathlib.Core.Bool.{Bool, true, false}
 use mathlib.Core.List.{List, []}
 use lib.ListN.{length}
 use Rattle.model.specs.Layout.{base, header, height_word, NodeVal, Arena}
-use Rattle.model.specs.Tree.{Item, Tree, Ctx, top}
+use Rattle.model.specs.Tree.{Tree, top}
 use Rattle.model.specs.Nodes.{returned, Grown}
 use Rattle.model.specs.Remove.{pop, pop_by}
 use Rattle.node.specs.Reading.{Has}

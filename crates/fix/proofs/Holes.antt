@@ -3,13 +3,12 @@
 use Prim.Native.Nat.{ℕ, zero, suc, ◌+◌, pred, ◌≤◌, ◌<◌}
 use native.Mathlib.Decide.{dec_lt}
 use native.Mathlib.Omega.{arith}
-use mathlib.Core.Path.{◌≡◌, refl, ap, ◌∙◌, sym, subst}
+use mathlib.Core.Path.{◌≡◌, refl, ap, ◌∙◌}
 use mathlib.Core.List.{List, [], ◌∷◌, map}
 use lib.ListN.{length, get_or, length-map}
-use Rattle.model.specs.Lists.{All, one, times}
-use Rattle.model.specs.Layout.{none, most, header_size, base, header, word_at, length_word, parent_word, place_word, edges_word, NodeVal, nth, Arena}
-use Rattle.model.specs.Tree.{Item, Node, Tree, Frame, Ctx, top, under, Whole, plug, fill, fill_first, fill_rest}
-use Rattle.model.specs.Nodes.{Grown}
+use Rattle.model.specs.Lists.{All, times}
+use Rattle.model.specs.Layout.{most, header_size, base, header, word_at, length_word, parent_word, place_word, edges_word, NodeVal, nth}
+use Rattle.model.specs.Tree.{Item, Tree, Ctx, top, under, plug, fill_first, fill_rest}
 use Rattle.model.specs.Words.{root_no}
 use Rattle.model.specs.Remove.{pop, pop_by}
 use Rattle.model.proofs.Arena.{arena_length, arena_header}
@@ -20,11 +19,11 @@ use Rattle.node.specs.Reading.{Within, ascent_of}
 use Rattle.node.proofs.Reading.{within, len_is, parent_is, place_is, edge_is, ascent_root, ascent_edge}
 use Rattle.store.specs.Links.{link_of}
 use Rattle.standing.specs.Kept.{Child}
-use Rattle.standing.specs.Standing.{numbered, root_of, Hole}
+use Rattle.standing.specs.Standing.{numbered, root_of}
 use Rattle.standing.proofs.Leads.{one_self, link_parent, link_place}
 use Rattle.standing.proofs.Scenes.{close}
 use Rattle.standing.proofs.Heads.{plug_root, plug_top}
-use Rattle.shrinking.proofs.Items.{body_parts, pair_in, edge_in, column_long, there}
+use Rattle.shrinking.proofs.Items.{body_parts, edge_in, column_long, there}
 use Rattle.shrinking.proofs.Steps.{content_pairs}
 use Rattle.standing.specs.Heads.{Rest, head_words, top_of, HoleBy, ClosedBy}
 

@@ -1,16 +1,12 @@
 -- The arena's words during the repair: a tree with a hole; which sibling is chosen; the repair under way, and what it leaves.
 -- Assumes nothing.
-use Rattle.std.specs.Prelude.{ℕ, zero, suc, ◌+◌, pred, ◌≤◌, ◌≡◌, Bool, true, false, List, [], ◌∷◌, length}
-use Rattle.model.specs.Layout.{format_number, header_size, most, header, free_word, NodeVal, Arena}
-use Rattle.model.specs.Tree.{Item, Node, Tree, Frame, Ctx, top, under, fill, Twin}
+use Rattle.std.specs.Prelude.{ℕ, suc, ◌+◌, ◌≤◌, ◌≡◌, Bool, true, false, List, [], ◌∷◌, length}
+use Rattle.model.specs.Layout.{most, header, free_word}
+use Rattle.model.specs.Tree.{Item, Node, Tree, Ctx, top, under, fill, Twin}
 use Rattle.model.specs.Nodes.{Grown, returned}
-use Rattle.model.specs.Mark.{seen_of, mark_of}
-use Rattle.model.specs.State.{State, list}
-use Rattle.model.specs.Words.{root_no, first_or}
 use Rattle.model.specs.Remove.{pop, shrink, join, can_merge, steal, lender, taker}
 use Rattle.model.specs.Sizes.{FullCtx, Short}
 use Rattle.model.specs.Insert.{Side}
-use Rattle.standing.specs.Standing.{root_of, Hole}
 use Rattle.standing.specs.Heads.{Rest, HoleIn, ClosedIn}
 use Rattle.fix.specs.declared.BalancingContext.{BalancingContext}
 use Rattle.fix.specs.declared.ParentKv.{ParentKv}

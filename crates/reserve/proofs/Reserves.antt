@@ -11,7 +11,7 @@ use lib.ListN.{set}
 use Rattle.model.specs.declared.Answer.TheVariants.{Done, Spent}
 use Rattle.model.specs.Layout.{header, seen_word, mark_word, arena_by}
 use Rattle.model.specs.Mark.{Mark, unseen, seen, reached, mark_of, mark_by, stored_mark}
-use Rattle.model.specs.State.{State, Reply, reserve}
+use Rattle.model.specs.State.{State, reserve}
 use Rattle.model.specs.Words.{words_of_by, words_of}
 use Rattle.model.specs.Promise.{Holds, Does}
 use Rattle.model.proofs.Header.{stored_mark_is, mark_is}

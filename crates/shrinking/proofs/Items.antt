@@ -1,13 +1,13 @@
 -- What the nodes of a removal's steps hold: lists of items around a hole, cut and joined.
 -- Assumes nothing.
-use Prim.Native.Nat.{ℕ, zero, suc, ◌+◌, ◌≤◌, ◌<◌}
+use Prim.Native.Nat.{ℕ, zero, suc, ◌+◌, ◌<◌}
 use native.Mathlib.Nat.{not-suc-le-zero}
 use native.Mathlib.Omega.{arith}
 use mathlib.Core.Path.{◌≡◌, refl, ap, ◌∙◌, sym}
 use mathlib.Core.List.{List, [], ◌∷◌, ◌++◌, map, tail, map-append}
-use lib.ListN.{length, take, drop, get_or, set, length-map, length-append}
+use lib.ListN.{length, take, drop, get_or, set, length-map}
 use lib.Seq.{take_at, drop_at, set_at}
-use Rattle.model.specs.Tree.{Pair, Item, fill, fill_first, fill_rest}
+use Rattle.model.specs.Tree.{Pair, Item, fill_rest}
 use Rattle.model.specs.Layout.{NodeVal}
 use Rattle.model.specs.Words.{kind}
 use Rattle.model.specs.Insert.{pair_of, edge_of}

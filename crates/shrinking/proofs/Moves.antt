@@ -1,6 +1,6 @@
 -- A merge and a move between two children: links, what is kept, what the three nodes hold.
 -- Assumes nothing.
-use mathlib.Core.Path.{◌≡◌, refl, sym, ap, ◌∙◌}
+use mathlib.Core.Path.{◌≡◌, refl, ap, ◌∙◌}
 use mathlib.Core.Logic.{◌⊎◌, inl, inr}
 use mathlib.Core.List.{List, [], ◌∷◌, ◌++◌}
 use Prim.Native.Nat.{ℕ, zero, suc, ◌+◌, ◌≤◌, ◌<◌}
@@ -17,7 +17,7 @@ use Rattle.model.proofs.Held.{Written}
 use Rattle.model.proofs.Lists.{times_append}
 use Rattle.slices.specs.Words.{remove_at}
 use Rattle.node.specs.Reading.{pair_at}
-use Rattle.store.specs.Links.{Body, body_of, link_of, with_body, relink_from, Frees}
+use Rattle.store.specs.Links.{Body, body_of, with_body, relink_from, Frees}
 use Rattle.store.proofs.Returns.{return_chain}
 use Rattle.leaf.specs.Pairs.{with_pairs}
 use Rattle.balance.specs.Moves.{joined_pairs, joined_edges, merged_bodies, merged_links, merge_nodes, moved_bodies, move_nodes}

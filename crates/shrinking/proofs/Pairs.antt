@@ -1,17 +1,16 @@
 -- A pair taken out of a leaf, and a pair put in the place of another in any node, on the list of nodes.
 -- Assumes nothing.
-use Prim.Native.Nat.{ℕ, zero, suc, ◌+◌, ◌≤◌, ◌<◌}
-use native.Mathlib.Nat.{not-suc-le-zero}
+use Prim.Native.Nat.{ℕ, suc, ◌+◌, ◌≤◌, ◌<◌}
 use native.Mathlib.Decide.{ℕ_discrete}
 use native.Mathlib.Omega.{arith}
 use mathlib.Core.Path.{◌≡◌, refl, ap, ap₂, ◌∙◌, sym}
 use mathlib.Core.Logic.{◌≢◌}
-use mathlib.Core.List.{List, [], ◌∷◌, ◌++◌, map}
+use mathlib.Core.List.{List, [], ◌∷◌, map}
 use lib.ListN.{length, get_or, set, length-map, length-set}
 use lib.Seq.{get_or-set_same, get_or-set_other}
 use Rattle.model.specs.Lists.{one, times}
-use Rattle.model.specs.Tree.{Pair, Item, Node, Tree, Frame, Ctx, top, under, fill, fill_first, fill_rest, has_in, has, has_ctx}
-use Rattle.model.specs.Layout.{largest_count, NodeVal, nth, blank}
+use Rattle.model.specs.Tree.{Pair, Item, Tree, Ctx, fill, fill_first, fill_rest, has_in, has, has_ctx}
+use Rattle.model.specs.Layout.{NodeVal, nth, blank}
 use Rattle.model.specs.Words.{root_no}
 use Rattle.model.specs.Sound.{AllIn}
 use Rattle.model.proofs.Lists.{one_same}
@@ -21,7 +20,7 @@ use Rattle.slices.specs.Words.{remove_at}
 use Rattle.node.specs.Reading.{pair_at}
 use Rattle.store.specs.Links.{Body, body_of, link_of}
 use Rattle.leaf.specs.Pairs.{with_pairs, put_pairs, PairAt, replace_pair, remove_pair}
-use Rattle.standing.specs.Kept.{Child, Links, Kept}
+use Rattle.standing.specs.Kept.{Links, Kept}
 use Rattle.standing.specs.Standing.{numbered, edges_in, content, content_of, Stands, root_of, Hole}
 use Rattle.standing.proofs.Leads.{one_self, link_parent}
 use Rattle.standing.proofs.Frames.{stands_kept, all_kept, way_kept, chain_kept}

@@ -1,21 +1,19 @@
 -- The steps of the repair, on the list of nodes: how a hole and its neighbour are seen, a merge, a move, a root taken off; and what each
 -- of the store's calls asks.
 -- Assumes nothing.
-use Prim.Native.Nat.{ℕ, zero, suc, ◌+◌, ◌-◌, ◌≤◌, ◌<◌}
-use native.Mathlib.Nat.{not-suc-le-zero}
+use Prim.Native.Nat.{ℕ, zero, suc, ◌+◌, ◌≤◌, ◌<◌}
 use native.Mathlib.Numerals.{add-one}
 use native.Mathlib.Omega.{arith}
 use mathlib.Core.Path.{◌≡◌, refl, ap, ap₂, ◌∙◌, sym}
-use mathlib.Core.Logic.{◌≢◌}
 use mathlib.Core.List.{List, [], ◌∷◌, ◌++◌, map, tail, map-append}
 use lib.ListN.{length, take, drop, get_or, length-map}
 use Rattle.model.specs.Lists.{All, one, times}
-use Rattle.model.specs.Tree.{Pair, Item, Node, Tree, Frame, Ctx, top, under, Whole, fill, fill_first, fill_rest, Twin, has_in, has, has_ctx}
+use Rattle.model.specs.Tree.{Pair, Item, Tree, Ctx, top, under, fill, fill_first, fill_rest, Twin, has_in, has, has_ctx}
 use Rattle.model.specs.Layout.{none, most, internal, NodeVal, nth}
 use Rattle.model.specs.Nodes.{returned}
 use Rattle.model.specs.Words.{kind, root_no, first_or}
 use Rattle.model.specs.Sound.{AllIn}
-use Rattle.model.specs.Insert.{cut, pair_of, edge_of}
+use Rattle.model.specs.Insert.{cut, edge_of}
 use Rattle.model.specs.Remove.{join}
 use Rattle.model.proofs.Lists.{one_same}
 use Rattle.model.proofs.Frees.{returned_times, returned_rises}
@@ -24,8 +22,7 @@ use Rattle.model.proofs.Sizes.{fill_parts}
 use Rattle.model.proofs.Cut.{join_all, cut_all, has_join, has_cut}
 use Rattle.slices.specs.Words.{remove_at}
 use Rattle.slices.proofs.Laws.{map_take, map_drop}
-use Rattle.node.specs.Reading.{pair_at}
-use Rattle.store.specs.Links.{Body, body_of, link_of, first_free, free_nodes, Frees}
+use Rattle.store.specs.Links.{Body, body_of, first_free, free_nodes, Frees}
 use Rattle.internal.specs.Inner as header
 use Rattle.internal.specs.Inner.{Branches, pop_nodes, PopReady}
 use Rattle.balance.specs.Moves as store

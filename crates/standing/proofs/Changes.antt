@@ -3,7 +3,7 @@
 use mathlib.Core.Path.{◌≡◌, refl, sym, ap, ◌∙◌}
 use mathlib.Core.Logic.{◌≢◌}
 use mathlib.Core.List.{List, [], ◌∷◌}
-use Prim.Native.Nat.{ℕ, suc, ◌+◌, ◌≤◌, ◌<◌}
+use Prim.Native.Nat.{ℕ, ◌≤◌, ◌<◌}
 use native.Mathlib.Nat.{not-suc-le-zero}
 use native.Mathlib.Decide.{ℕ_discrete, dec_lt}
 use native.Mathlib.Omega.{arith}
@@ -12,10 +12,10 @@ use lib.Seq.{get_or-set_same, get_or-set_other}
 use Rattle.model.specs.Lists.{times}
 use Rattle.model.specs.Layout.{none, largest_count, NodeVal, nth, blank}
 use Rattle.model.proofs.Lists.{one_same}
-use Rattle.store.specs.Links.{body_of, link_of, relink, relink_from}
+use Rattle.store.specs.Links.{body_of, link_of, relink_from}
 use Rattle.store.proofs.Relink.{relink_length, relink_body}
 use Rattle.standing.specs.Kept.{Child, Links, leads, Edged, Bodied, Kept}
-use Rattle.standing.proofs.Leads.{one_self, times_parts, times_at, leads_node, Led, leads_found, led_child, link_parent, links_edged}
+use Rattle.standing.proofs.Leads.{times_parts, times_at, leads_node, Led, leads_found, led_child, link_parent, links_edged}
 use Rattle.standing.proofs.Relinks.{relink_other, relink_leads}
 
 -- ---- who is a child

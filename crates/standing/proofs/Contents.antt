@@ -1,12 +1,12 @@
 -- What a node of the tree holds, as numbers: a filled hole, and a node's value from its body and its link.
 -- Assumes nothing.
-use mathlib.Core.Path.{◌≡◌, refl, sym, ap, ap₂, ◌∙◌}
+use mathlib.Core.Path.{◌≡◌, refl, ap}
 use mathlib.Core.List.{List, [], ◌∷◌, map}
 use Prim.Native.Nat.{ℕ, zero, suc}
 use Rattle.model.specs.Layout.{NodeVal}
-use Rattle.model.specs.Tree.{Pair, Item, Node, Tree, fill, fill_first, fill_rest}
-use Rattle.model.specs.Words.{root_no, pairs, links, edges_of, node_val}
-use Rattle.store.specs.Links.{Body, Link, body_of, link_of}
+use Rattle.model.specs.Tree.{Pair, Item, Tree, fill, fill_first, fill_rest}
+use Rattle.model.specs.Words.{root_no, pairs, links, node_val}
+use Rattle.store.specs.Links.{body_of, link_of}
 use Rattle.standing.specs.Standing.{numbered, content, content_of}
 
 -- ---- a filled hole

@@ -7,7 +7,7 @@ use Prim.Native.Nat.{ℕ, zero, suc, ◌+◌, ◌-◌, ◌≤◌, ◌<◌}
 use native.Mathlib.Nat.{add-zero, add-suc, suc-add, not-suc-le-zero}
 use native.Mathlib.Decide.{ℕ_discrete, dec_lt}
 use native.Mathlib.Omega.{arith}
-use lib.ListN.{length, drop, get_or, set, length-set, length-drop}
+use lib.ListN.{length, drop, get_or, length-set, length-drop}
 use lib.Seq.{get_or-set_same, get_or-set_other, set_out, get_or-drop}
 use Rattle.model.specs.Lists.{times}
 use Rattle.model.specs.Layout.{NodeVal, nth, blank}

@@ -3,7 +3,7 @@
 use Rattle.std.specs.Prelude.{◌≡◌, ◌⊎◌, List, [], ◌∷◌, ℕ, ◌+◌, ◌≤◌, ◌<◌, length, get_or}
 use Rattle.model.specs.Lists.{times}
 use Rattle.model.specs.Layout.{none, NodeVal, nth}
-use Rattle.store.specs.Links.{Body, Link, body_of, link_of}
+use Rattle.store.specs.Links.{body_of, link_of}
 
 -- the edge i of the node q leads to c
 pub record Child (ns : List NodeVal) (q i c : ℕ) : Type 0 where

@@ -3,7 +3,7 @@
 use Rattle.std.specs.Prelude.{ℕ, zero, suc, ◌+◌, ◌≤◌, ◌<◌, ◌≡◌, List, [], ◌∷◌, map, length}
 use Rattle.model.specs.Lists.{All, Rises, one, times}
 use Rattle.model.specs.Layout.{none, largest_count, NodeVal, nth}
-use Rattle.model.specs.Tree.{Pair, Item, Node, Tree, Frame, Ctx, top, under, Whole, fill, Twin, has_in, has, has_ctx, has_whole}
+use Rattle.model.specs.Tree.{Item, Node, Tree, Ctx, top, under, Whole, fill, Twin, has_in, has, has_ctx}
 use Rattle.model.specs.Words.{kind, root_no, chain_blocks}
 use Rattle.model.specs.Sound.{AllIn}
 use Rattle.model.specs.Words.{Written}

@@ -5,19 +5,18 @@ use native.Mathlib.Decide.{ℕ_discrete, dec_lt}
 use native.Mathlib.Nat.{zero-add}
 use native.Mathlib.Omega.{arith}
 use mathlib.Core.Path.{◌≡◌, refl, sym, ap, ap₂, ◌∙◌, subst}
-use mathlib.Core.Logic.{◌≢◌}
 use mathlib.Core.List.{List, [], ◌∷◌, map}
-use lib.ListN.{length, get_or, set, length-append, length-map, length-set}
+use lib.ListN.{length, get_or, length-append, length-map, length-set}
 use lib.Seq.{get_or-set_same, get_or-set_other, set_out}
 use Rattle.model.specs.Lists.{times, one}
 use Rattle.model.specs.Layout.{none, most, largest_count, header, height_word, word_at, parent_word, place_word, total_word, NodeVal, nth, blank, Arena}
-use Rattle.model.specs.Tree.{Item, Tree, Frame, Ctx, top, under, fill, fill_first, fill_rest, flat, flats, has_in, has, has_ctx}
-use Rattle.model.specs.Words.{free_val, root_no, kind}
+use Rattle.model.specs.Tree.{Item, Tree, Frame, Ctx, top, under, fill, fill_first, fill_rest, flat, flats, has_in, has}
+use Rattle.model.specs.Words.{root_no, kind}
 use Rattle.model.specs.Sound.{AllIn}
 use Rattle.model.proofs.Lists.{one_same, one_other}
 use Rattle.model.proofs.Plug.{length_fill, has_fill}
 use Rattle.model.proofs.Sizes.{fill_parts}
-use Rattle.store.specs.Links.{Body, Link, body_of, link_of}
+use Rattle.store.specs.Links.{Body, body_of, link_of}
 use Rattle.standing.specs.Kept.{Links, Kept, Child}
 use Rattle.standing.specs.Standing.{numbered, Stands, Hole, root_of}
 use Rattle.standing.specs.Heads.{top_of}

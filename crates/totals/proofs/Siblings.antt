@@ -1,13 +1,13 @@
 -- Counts after a merge, a move of pairs between neighbours, a pair taken out, a root taken off; a child's count set right below its parent.
 -- Assumes nothing.
-use Prim.Native.Nat.{ℕ, zero, suc, ◌+◌, ◌≤◌, ◌<◌}
+use Prim.Native.Nat.{ℕ, suc, ◌+◌, ◌≤◌, ◌<◌}
 use native.Mathlib.Decide.{ℕ_discrete, dec_lt}
 use native.Mathlib.Omega.{arith}
-use mathlib.Core.Path.{◌≡◌, refl, sym, ap, ap₂, ◌∙◌, subst}
-use mathlib.Core.List.{List, [], ◌∷◌, ◌++◌}
+use mathlib.Core.Path.{◌≡◌, refl, sym, ap, ◌∙◌, subst}
+use mathlib.Core.List.{List, [], ◌∷◌}
 use lib.ListN.{length, set, take, drop, length-set}
 use lib.Seq.{get_or-set_same, get_or-set_other, set_out}
-use Rattle.model.specs.Lists.{All, times, one}
+use Rattle.model.specs.Lists.{All, times}
 use Rattle.model.specs.Nodes.{returned}
 use Rattle.model.proofs.Frees.{returned_times}
 use Rattle.model.proofs.Held.{Written}
@@ -21,12 +21,12 @@ use Rattle.node.specs.Reading.{pair_at}
 use Rattle.store.specs.Links.{with_body, with_edges, linked, relink, relink_from, first_free, free_nodes, return_node}
 use Rattle.store.proofs.Relink.{relink_length}
 use Rattle.store.proofs.Returns.{return_cases}
-use Rattle.leaf.specs.Pairs.{with_pairs, put_pairs, remove_pair, replace_pair}
+use Rattle.leaf.specs.Pairs.{with_pairs, remove_pair, replace_pair}
 use Rattle.internal.specs.Inner as header
 use Rattle.internal.specs.Inner.{popped, pop_nodes, only_child}
 use Rattle.balance.specs.Moves.{Shaped, three, joined_pairs, joined_edges, merged_bodies, merged_links, merge_nodes, moved_bodies, move_nodes}
 use Rattle.standing.specs.Kept.{Kept}
-use Rattle.standing.specs.Standing.{numbered, Stands, Hole, Beside}
+use Rattle.standing.specs.Standing.{numbered, Hole, Beside}
 use Rattle.standing.specs.Totals.{totals, due, TotalsBut, Totals, recount}
 use Rattle.standing.proofs.Leads.{one_self, link_parent}
 use Rattle.standing.proofs.Totals.{changed_but, recount_up, put_other}
@@ -34,7 +34,6 @@ use Rattle.shrinking.proofs.Steps.{shaped, right-in, K, Kv, Kp, merge_step, pop_
 use Rattle.totals.proofs.Settling.{due_flat, root_inside, hangs, part_few, right_kept, right_hole, hole_part, hole_kept, part_out}
 use Rattle.totals.specs.Settling.{above, ample, Settles, Settled}
 use Rattle.node.specs.Reading.{Has}
-use Rattle.standing.specs.Heads.{top_of}
 
 -- ---- which steps leave counts alone
 

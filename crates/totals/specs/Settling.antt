@@ -1,6 +1,6 @@
 -- One count that is wrong, and all counts above it by as much; and all of them set right.
 -- Assumes nothing.
-use Rattle.std.specs.Prelude.{ℕ, zero, suc, ◌+◌, ◌*◌, ◌≤◌, ◌<◌, ◌≡◌, List, [], ◌∷◌, length}
+use Rattle.std.specs.Prelude.{ℕ, suc, ◌+◌, ◌*◌, ◌≤◌, ◌<◌, ◌≡◌, List, [], ◌∷◌, length}
 use Rattle.model.specs.Layout.{largest_count, most, header, height_word, NodeVal, nth, Arena}
 use Rattle.model.specs.Tree.{Tree, Ctx, top, under, flat, has}
 use Rattle.model.specs.Words.{root_no}

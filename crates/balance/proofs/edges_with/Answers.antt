@@ -1,0 +1,11 @@
+-- `balance::edges_with` meets its contract.
+-- Assumes nothing.
+use mathlib.Core.Path.{sym, ◌∙◌}
+use Rattle.balance.proofs.Shapes.{with_all, with_none}
+use Rattle.balance.proofs.edges_with.Goals as goal
+
+pub returns-then-state-eq-INTERNAL : goal.returns-then-state-eq-INTERNAL
+returns-then-state-eq-INTERNAL c = sym (with_all _ _ (sym c.state.ensures ∙ c.if-state-eq-INTERNAL.true))
+
+pub returns : goal.returns
+returns c = sym (with_none _ _ (λ e. c.if-state-eq-INTERNAL.false (c.state.ensures ∙ e)))
