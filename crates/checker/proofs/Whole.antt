@@ -1,9 +1,9 @@
 -- The whole arena: what the tests found makes it well-formed, and a well-formed one passes them.
 -- Assumes nothing.
-use Prim.Native.Nat.{ℕ, ◌-◌}
+use Prim.Native.Nat.{ℕ}
 use native.Mathlib.Omega.{arith}
 use mathlib.Core.Path.{◌≡◌, ap, subst, sym}
-use mathlib.Core.Bool.{Bool, false, not}
+use mathlib.Core.Bool.{Bool, true}
 use mathlib.Core.List.{List}
 use Rattle.model.specs.declared.Layout.{Layout}
 use Rattle.model.specs.Layout.{header, seen_word, mark_word}
@@ -58,5 +58,5 @@ module _ {fm : Layout} {w : List ℕ} where
 
 -- ---- what a caller has from a good check: the state that the words say, sound, and that they are its words
 
-pub given : (b : Bool) {w : List ℕ} → Decides b (WellFormed w) → not b ≡ false → Holds w (state_of w)
+pub given : (b : Bool) {w : List ℕ} → Decides b (WellFormed w) → b ≡ true → Holds w (state_of w)
 given b {w} d e = forward w (decided b d e)

@@ -1,5 +1,7 @@
 // The checker: whether words are a well-formed arena. One walk down the tree in the order of its keys, then the free chain.
 // It only reads, ends on any words, and meets at most as many nodes as there are.
+#![tactic(auto)]
+
 ghost use Rattle.std.specs.Prelude.{◌≡◌, ◌<◌, ◌≤◌, length};
 ghost use Rattle.model.specs.Layout.{SizedBy, Counts, least, most, total_word, word_at_by, word_at};
 ghost use Rattle.model.specs.WellFormed.{WellFormedBy, WellFormed, root_fewest};

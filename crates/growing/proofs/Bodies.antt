@@ -1,24 +1,22 @@
 -- What the nodes of an insertion's steps hold, as items with numbers; one law for a leaf and an internal node.
 -- Assumes nothing.
 use Prim.Native.Nat.{ℕ, zero, suc, ◌+◌, ◌≤◌, ◌<◌}
-use native.Mathlib.Nat.{not-suc-le-zero}
 use native.Mathlib.Numerals.{add-one}
 use native.Mathlib.Omega.{arith}
-use mathlib.Core.Path.{◌≡◌, refl, ap, ◌∙◌, sym}
+use mathlib.Core.Path.{◌≡◌, refl, ap, ◌∙◌}
 use mathlib.Core.Logic.{◌≢◌}
 use mathlib.Core.List.{List, [], ◌∷◌, map, tail}
-use lib.ListN.{length, take, drop, get_or, length-map, length-drop}
-use Rattle.model.specs.Lists.{All, insert_at}
+use lib.ListN.{length, take, drop}
+use Rattle.model.specs.Lists.{insert_at}
 use Rattle.model.specs.Tree.{Pair, Item}
 use Rattle.model.specs.Layout.{none, most, largest_count, NodeVal, nth}
 use Rattle.model.specs.Words.{kind, free_val}
 use Rattle.model.specs.Insert.{edge_of}
-use Rattle.slices.proofs.Laws.{map_insert, map_take, map_drop}
-use Rattle.store.specs.Links.{Body, body_of}
+use Rattle.slices.proofs.Laws.{map_insert}
+use Rattle.store.specs.Links.{body_of}
 use Rattle.leaf.specs.Split.{split_nodes}
-use Rattle.internal.specs.Inner.{Branches}
 use Rattle.standing.specs.Kept.{Links, Kept}
-use Rattle.standing.specs.Standing.{edges_in, content}
+use Rattle.standing.specs.Standing.{content}
 use Rattle.growing.specs.Steps.{fit_at, FitsAt, Splits}
 use Rattle.shrinking.proofs.Items.{body_parts, pair_in, edge_in, low_content, high_content}
 use Rattle.shrinking.proofs.Pairs.{pairs_kept, pairs_body}

@@ -1,6 +1,6 @@
 -- Counts in the steps of an insertion: no step writes one but a fresh node's, so only those of the changed nodes may be wrong.
 -- Assumes nothing.
-use Prim.Native.Nat.{ℕ, zero, suc, ◌+◌, ◌≤◌, ◌<◌}
+use Prim.Native.Nat.{ℕ, zero, suc, ◌+◌}
 use mathlib.Core.Path.{◌≡◌, refl, sym, ap, ◌∙◌}
 use mathlib.Core.List.{List, [], ◌∷◌}
 use lib.ListN.{length, set, take, drop}
@@ -8,12 +8,12 @@ use Rattle.model.specs.Lists.{times, insert_at}
 use Rattle.model.specs.Tree.{Pair}
 use Rattle.model.specs.Nodes.{taken}
 use Rattle.model.specs.Layout.{internal, NodeVal, nth}
-use Rattle.store.specs.Links.{Body, body_of, with_body, with_edges, fresh, linked}
+use Rattle.store.specs.Links.{Body, with_body, with_edges, fresh, linked}
 use Rattle.leaf.specs.Pairs.{with_pairs}
 use Rattle.leaf.specs.Split.{cut_bodies, split_nodes}
 use Rattle.internal.specs.Inner.{fit_bodies, fit_nodes, crown_nodes, push_nodes, root_of}
 use Rattle.standing.specs.Kept.{Kept}
-use Rattle.standing.specs.Totals.{totals, due, TotalsBut}
+use Rattle.standing.specs.Totals.{totals, TotalsBut}
 use Rattle.totals.proofs.Siblings.{Same, same_totals, set_same, relink_same}
 use Rattle.growing.specs.Steps.{fit_at}
 

@@ -10,22 +10,20 @@ use lib.ListN.{length}
 use borrow.Author.Tests.{le-leb, lt-leb}
 use Rattle.model.specs.Layout.{most, NodeVal, nth, word_at, length_word, Arena}
 use Rattle.model.specs.Lists.{times}
-use Rattle.model.specs.Tree.{Pair, Tree, Frame, Ctx, top, under, plug, fill}
+use Rattle.model.specs.Tree.{Pair, Tree, Frame, Ctx, under}
 use Rattle.model.specs.Nodes.{taken, untaken}
 use Rattle.model.specs.Words.{root_no}
 use Rattle.model.specs.Insert.{Split, splitpoint, is_full}
-use Rattle.model.proofs.Climb.{halved, rise_fits}
+use Rattle.model.proofs.Climb.{halved}
 use Rattle.node.specs.Reading.{Within, Has}
 use Rattle.node.proofs.Reading.{within, len_is}
 use Rattle.store.specs.Links.{take_head}
 use Rattle.leaf.specs.Split.{split_nodes, CutReady, Cuttable, Cut}
 use Rattle.standing.specs.Standing.{root_of, Open}
-use Rattle.standing.proofs.Scenes.{close, zoom_out}
-use Rattle.standing.proofs.Heads.{plug_root, plug_top}
+use Rattle.standing.proofs.Scenes.{zoom_out}
 use Rattle.growing.specs.Steps.{fit_at, FitsAt, Splits, half}
-use Rattle.standing.specs.Heads.{Rest, head_words, top_of, ClosedIn}
-use Rattle.growing.specs.Climbs.{OpenBut, OpenIn, Gap, Fitted, Risen, FitRaw, FittedRaw, RisenRaw}
-use Rattle.standing.specs.Totals.{TotalsBut}
+use Rattle.standing.specs.Heads.{Rest, head_words, top_of}
+use Rattle.growing.specs.Climbs.{OpenBut, OpenIn, Gap, FitRaw, FittedRaw, RisenRaw}
 use Rattle.totals.specs.Settling.{ample}
 use Rattle.totals.proofs.Siblings.{Same}
 use Rattle.growing.proofs.Counts.{fit_total, split_total, changed}

@@ -1,31 +1,29 @@
 -- Counts set right after a pair has been put in, and after a split.
 -- Assumes nothing.
-use Prim.Native.Nat.{ℕ, zero, suc, ◌+◌, ◌-◌, pred, ◌≤◌, ◌<◌}
+use Prim.Native.Nat.{ℕ, zero, suc, pred, ◌≤◌, ◌<◌}
 use native.Mathlib.Decide.{ℕ_discrete}
 use native.Mathlib.Omega.{arith}
 use mathlib.Core.Path.{◌≡◌, refl, sym, ap, ◌∙◌, subst}
 use mathlib.Core.List.{List, [], ◌∷◌}
 use lib.ListN.{length}
-use Rattle.model.specs.Lists.{times, one}
-use Rattle.model.specs.Layout.{none, largest_count, header, height_word, NodeVal, nth, blank, Arena}
-use Rattle.model.specs.Tree.{Pair, Item, Tree, Frame, Ctx, top, under, plug, fill, flat, has, has_in}
+use Rattle.model.specs.Layout.{none, largest_count, NodeVal, nth, Arena}
+use Rattle.model.specs.Tree.{Pair, Tree, Frame, Ctx, under, plug, fill, flat}
 use Rattle.model.specs.Words.{root_no, kind}
 use Rattle.model.proofs.Lists.{one_same, one_other}
 use Rattle.node.specs.Reading.{Has}
-use Rattle.store.specs.Links.{Body, body_of}
+use Rattle.store.specs.Links.{Body}
 use Rattle.balance.specs.Moves.{Shaped}
 use Rattle.standing.specs.Kept.{Kept}
 use Rattle.standing.specs.Standing.{numbered, root_of, Open, Loose}
 use Rattle.standing.specs.Heads.{Rest, head_words, top_of, ClosedIn}
-use Rattle.standing.specs.Totals.{due, TotalsBut, Totals, recount, put_total}
+use Rattle.standing.specs.Totals.{due, TotalsBut, recount}
 use Rattle.standing.proofs.Leads.{one_self, link_parent}
-use Rattle.standing.proofs.Relinks.{body_state}
 use Rattle.standing.proofs.Frames.{stands_kept, way_kept, chain_kept}
 use Rattle.standing.proofs.Totals.{past, put_other, recount_up}
 use Rattle.standing.proofs.Heads.{plug_root, plug_top}
 use Rattle.standing.proofs.Scenes.{close}
 use Rattle.shrinking.proofs.Steps.{shaped}
-use Rattle.totals.specs.Settling.{above, ample, Part, Lone, Settles, Settled}
+use Rattle.totals.specs.Settling.{above, ample, Part, Settles}
 use Rattle.totals.proofs.Settling.{top_above, due_flat, due_here, flat_few, part_few, arena_small, put_kept, hole_part, hole_kept, part_out}
 use Rattle.totals.proofs.Siblings.{SetCall, SettleCall}
 use Rattle.growing.specs.Climbs.{OpenBut, OpenIn, FitRaw}

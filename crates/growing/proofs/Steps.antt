@@ -6,23 +6,22 @@ use native.Mathlib.Omega.{arith}
 use mathlib.Core.Path.{◌≡◌, refl, ap, ap₂, ◌∙◌, sym, subst}
 use mathlib.Core.Logic.{◌≢◌}
 use mathlib.Core.Bool.{true, false}
-use mathlib.Core.List.{List, [], ◌∷◌, ◌++◌, map, tail, map-append}
-use lib.ListN.{length, take, drop, set, length-map, length-drop}
-use lib.Seq.{length-take-le, set_at, get_or_at}
+use mathlib.Core.List.{List, [], ◌∷◌, map, tail}
+use lib.ListN.{length, take, drop, length-map, length-drop}
+use lib.Seq.{length-take-le}
 use borrow.Author.Tests.{leb-true, leb-false}
-use Rattle.model.specs.Lists.{one, times}
-use Rattle.model.specs.Tree.{Pair, Item, Tree, Frame, Ctx, top, under, fill, Twin, has_in, has, has_ctx}
+use Rattle.model.specs.Lists.{times}
+use Rattle.model.specs.Tree.{Pair, Item, Tree, Frame, Ctx, top, under, fill, Twin, has, has_ctx}
 use Rattle.model.specs.Layout.{none, most, internal, largest_count, NodeVal, nth}
 use Rattle.model.specs.Words.{kind, root_no, first_or}
 use Rattle.model.specs.Insert.{Side, left, right, Split, splitpoint, pair_of, edge_of, into_left, into_right, is_full}
 use Rattle.model.proofs.Lists.{one_same, one_other}
-use Rattle.model.proofs.Plug.{fill_rest_lem, length_fill, has_fill}
-use Rattle.model.proofs.Sizes.{fill_parts, parts_fill}
+use Rattle.model.proofs.Plug.{length_fill}
+use Rattle.model.proofs.Sizes.{fill_parts}
 use Rattle.model.proofs.Climb.{Goes, low, high, goes, halve_all, halved, halved_has, fill_full, fill_insert}
 use Rattle.slices.proofs.Laws.{map_insert, map_take, map_drop}
 use Rattle.node.specs.Reading.{pair_at}
 use Rattle.store.specs.Links.{body_of, first_free, free_nodes, TakeReady}
-use Rattle.leaf.specs.Pairs.{PairAt, replace_pair}
 use Rattle.leaf.specs.Split.{split_nodes, CutReady}
 use Rattle.internal.specs.Inner as header
 use Rattle.internal.specs.Inner.{push_nodes}

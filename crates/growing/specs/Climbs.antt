@@ -1,15 +1,13 @@
 -- The arena's words during the climb of an insertion: a tree with a hole and a tree beside it, or a whole tree again.
 -- Assumes nothing.
 use Rattle.std.specs.Prelude.{ℕ, suc, ◌+◌, pred, ◌≤◌, ◌≡◌, true, false, List, [], ◌∷◌, length}
-use Rattle.model.specs.Layout.{format_number, header_size, largest_height, NodeVal, nth, Arena}
+use Rattle.model.specs.Layout.{largest_height, NodeVal, nth, Arena}
 use Rattle.model.specs.Tree.{Pair, Tree, Frame, Ctx, top, under, fill}
 use Rattle.model.specs.Nodes.{untaken, Grown}
 use Rattle.model.specs.Insert.{is_full, rise, halved, needed}
-use Rattle.model.specs.Mark.{seen_of, mark_of}
-use Rattle.model.specs.State.{State, list}
-use Rattle.model.specs.Words.{root_no, first_or}
-use Rattle.standing.specs.Standing.{root_of, Hole, Open, Closed}
-use Rattle.standing.specs.Totals.{TotalsBut, Totals}
+use Rattle.model.specs.Words.{root_no}
+use Rattle.standing.specs.Standing.{root_of, Hole, Open}
+use Rattle.standing.specs.Totals.{TotalsBut}
 use Rattle.totals.specs.Settling.{ample}
 use Rattle.standing.specs.Heads.{Rest, head_words, top_of, ClosedIn}
 

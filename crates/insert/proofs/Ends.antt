@@ -5,24 +5,20 @@ use native.Mathlib.Omega.{arith}
 use mathlib.Core.Path.{◌≡◌, refl, sym, ap, ap₂, ◌∙◌, subst}
 use mathlib.Core.List.{List, ◌∷◌}
 use lib.Dec.{lit<}
-use lib.ListN.{length, get_or, set, length-append, length-set}
-use native.Mathlib.Decide.{ℕ_discrete, dec_lt}
-use lib.Seq.{set-get_or, get_or-set_same, get_or-set_other, set_out}
+use lib.ListN.{length, get_or, set, length-append}
+use lib.Seq.{set-get_or}
 use borrow.Author.Tests.{le-leb, lt-leb}
 use Rattle.model.specs.declared.Answer.{Answer}
 use Rattle.model.specs.declared.Answer.TheVariants.{Done, Value, Absent, NoRoom, BadArena, BadRange, BadOrder, BadSize, BadImage, StaleCursor, Spent, Older, NotRising}
-use Rattle.model.specs.Layout.{most, largest_count, header, pairs_word, free_word, seen_word, mark_word, NodeVal, nth, blank, Arena}
+use Rattle.model.specs.Layout.{most, largest_count, header, pairs_word, free_word, seen_word, mark_word, NodeVal, nth, Arena}
 use Rattle.model.specs.Tree.{Pair, Item, Tree, Ctx, Whole, plug, fill, flat_of}
 use Rattle.model.specs.Search.{Spot, at, gap, search}
 use Rattle.model.specs.Insert.{rise, needed}
 use Rattle.model.specs.Mark.{Mark, unseen, seen, spend, seen_of, mark_of}
 use Rattle.model.specs.State.{State, Reply, put_at, put}
-use Rattle.model.specs.Words.{root_no, header_of, nodes_in, words_of}
-use Rattle.model.specs.WellFormed.{WellFormed}
+use Rattle.model.specs.Words.{root_no, header_of, nodes_in}
 use Rattle.model.specs.Promise.{Holds, Does}
 use Rattle.model.proofs.Bounds.{few}
-use Rattle.model.proofs.Decode.{state_of}
-use Rattle.model.proofs.Forward.{forward}
 use Rattle.model.proofs.Backward.{backward}
 use Rattle.model.proofs.Held.{held_of, words_header, sound_laid}
 use Rattle.model.proofs.Plug.{flat_plug, around}
@@ -41,9 +37,7 @@ use Rattle.standing.specs.Standing.{Hole}
 use Rattle.standing.proofs.Scenes.{closed_of, enter, close, closed_words}
 use Rattle.standing.specs.Heads.{rest_of, head_words, ClosedIn}
 use Rattle.totals.proofs.Siblings.{replace_told}
-use Rattle.standing.specs.Totals.{totals, due, Totals}
 use Rattle.standing.proofs.States.{laid_totals}
-use Rattle.leaf.specs.Pairs.{with_pairs}
 use Rattle.shrinking.proofs.Pairs.{pair_ready, pair_is, replace_long, replace_step}
 use Rattle.standing.proofs.Heads.{plug_root, plug_top}
 use Rattle.header.specs.Headers.{raised}

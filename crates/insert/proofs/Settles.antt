@@ -1,9 +1,8 @@
 -- An insertion's counts set right, in the code's own numbers.
 -- Assumes nothing.
 use Prim.Native.Nat.{ℕ, ◌<◌}
-use mathlib.Core.Path.{◌≡◌, sym, subst}
+use mathlib.Core.Path.{sym, subst}
 use mathlib.Core.List.{List}
-use Rattle.model.specs.Layout.{NodeVal, Arena}
 use Rattle.model.specs.Tree.{Pair}
 use Rattle.model.specs.Nodes.{untaken}
 use Rattle.model.proofs.Climb.{halved, rise_fits}

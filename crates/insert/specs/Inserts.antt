@@ -7,7 +7,6 @@ use Rattle.model.specs.Nodes.{Grown}
 use Rattle.model.specs.Insert.{needed}
 use Rattle.model.specs.Mark.{spend}
 use Rattle.model.specs.State.{State, Reply, list}
-use Rattle.model.specs.Words.{words_of}
 use Rattle.model.specs.declared.Answer.{Answer}
 use Rattle.model.specs.declared.Answer.TheVariants.{Done, Value, Absent, NoRoom, BadArena, BadRange, BadOrder, BadSize, BadImage, StaleCursor, Spent, Older, NotRising}
 use Rattle.node.specs.declared.NodeNo.{NodeNo}

@@ -2,24 +2,18 @@
 -- Assumes nothing.
 use Prim.Native.Nat.{ℕ, ◌≤◌, ◌<◌}
 use native.Mathlib.Omega.{arith}
-use mathlib.Core.Path.{◌≡◌, refl, sym, subst}
-use mathlib.Core.Bool.{Bool, true, false, not}
+use mathlib.Core.Path.{◌≡◌, refl, subst}
+use mathlib.Core.Bool.{Bool, true, false}
 use lib.Dec.{eqb, ltb, leb}
 use borrow.Author.Tests.{eqb-true, eqb-false, ltb-true, ltb-false, leb-true, leb-false}
 use Rattle.inspect.specs.Tests.{Decides}
 
-abbrev IsTrue : Bool → Type 0
-IsTrue true = Unit {0}
-IsTrue false = ⊥
-
 -- the test `!b` failed, or held
-pub decided : (b : Bool) {P : Type 0} → Decides b P → not b ≡ false → P
-decided true d e = d
-decided false d e = absurd (subst IsTrue e tt)
+pub decided : (b : Bool) {P : Type 0} → Decides b P → b ≡ true → P
+decided b {P} d e = subst (λ (t : Bool). Decides t P) e d
 
-pub refuted : (b : Bool) {P : Type 0} → Decides b P → not b ≡ true → P → ⊥
-refuted true d e p = subst IsTrue (sym e) tt
-refuted false d e p = d p
+pub refuted : (b : Bool) {P : Type 0} → Decides b P → b ≡ false → P → ⊥
+refuted b {P} d e = subst (λ (t : Bool). Decides t P) e d
 
 -- the test `b` held, or failed
 pub held : (b : Bool) {P : Type 0} → Decides b P → b ≡ true → P

@@ -8,7 +8,7 @@ use mathlib.Core.Path.{◌≡◌, refl}
 use mathlib.Core.Logic.{⊎_elim}
 use mathlib.Core.List.{List}
 use lib.ListN.{get_or}
-use lib.Bits.{bit_or, bit_and, or_add_and, and_le_l, and_le_r}
+use lib.Bits.{bit_or, or_add_and, and_le_l, and_le_r}
 use Rattle.model.specs.declared.Layout.{Layout}
 use Rattle.model.specs.Layout.{none, leaf, internal, most, base_by, word_at_by, parent_word, keys_word, values_word, edges_word, total_word}
 use Rattle.model.specs.Words.{kind}

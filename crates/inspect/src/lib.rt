@@ -1,4 +1,6 @@
 // The checker's tests of single parts: a node's own words, its children's links, the free chain, a key after another, the mark. They only read.
+#![tactic(auto)]
+
 ghost use Rattle.std.specs.Prelude.{◌≡◌, ℕ, ◌+◌, ◌≤◌, ◌<◌, length};
 ghost use Rattle.model.specs.Layout.{SizedBy, least, most, node_size_by};
 ghost use Rattle.model.specs.Words.{kind};

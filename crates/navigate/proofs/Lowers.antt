@@ -9,7 +9,7 @@ use lib.ListN.{length, length-map}
 use Rattle.model.specs.declared.SearchBound.{SearchBound}
 use Rattle.model.specs.Lists.{part}
 use Rattle.model.specs.Layout.{base, word_at, length_word, keys_word, edges_word}
-use Rattle.model.specs.Tree.{Tree, Ctx, Whole, plug, flat_of}
+use Rattle.model.specs.Tree.{Ctx, Whole, plug, flat_of}
 use Rattle.model.specs.Search.{sink}
 use Rattle.model.specs.Range as range
 use Rattle.model.specs.Range.{lower_edge, keys_of}
@@ -18,7 +18,6 @@ use Rattle.model.specs.State.{State}
 use Rattle.model.specs.Promise.{Holds}
 use Rattle.model.proofs.Forks.{starts, lower_step, lower_inside}
 use Rattle.model.proofs.Standing.{At, below_at}
-use Rattle.search.specs.declared.Handle.{Handle}
 use Rattle.search.specs.declared.BoundEdge.{BoundEdge}
 use Rattle.search.specs.Results.{leaf_edge, edged}
 use Rattle.search.proofs.Descents.{keys_are, leaf_at}

@@ -1,12 +1,12 @@
 -- A pair's place: the words that hold the pair, and the place where a search or a step ends.
 -- Assumes nothing.
-use Prim.Native.Nat.{ℕ, zero, suc, ◌+◌, ◌≤◌, ◌<◌}
+use Prim.Native.Nat.{ℕ, suc, ◌+◌, ◌≤◌, ◌<◌}
 use native.Mathlib.Omega.{arith}
 use mathlib.Core.Path.{◌≡◌, refl, sym, ap, ◌∙◌, subst}
-use mathlib.Core.List.{List, [], ◌∷◌, map}
+use mathlib.Core.List.{List, ◌∷◌, map}
 use lib.ListN.{length, get_or}
 use Rattle.model.specs.Layout.{most, base, node_size, word_at, keys_word, values_word, key_of, val_of}
-use Rattle.model.specs.Tree.{Pair, Item, Tree, Ctx, Whole, plug, fill}
+use Rattle.model.specs.Tree.{Pair, Item, Tree, Ctx, fill}
 use Rattle.model.specs.Search.{Spot, at, gap, search}
 use Rattle.model.specs.Words.{pairs}
 use Rattle.model.specs.State.{State}
@@ -14,7 +14,7 @@ use Rattle.model.specs.Sound.{Sound}
 use Rattle.model.specs.Promise.{Holds}
 use Rattle.model.proofs.Plug.{length_fill}
 use Rattle.model.proofs.Descent.{Sought, search_right}
-use Rattle.model.proofs.Standing.{NodeAt, At, stands, short_at, key_at, value_at, fill_at}
+use Rattle.model.proofs.Standing.{At, stands, short_at, key_at, value_at, fill_at}
 use Rattle.search.specs.declared.Handle.{Handle}
 use Rattle.search.specs.declared.SearchResult.TheVariants.{Found}
 use Rattle.search.specs.Results.{handle, spotted}

@@ -4,13 +4,12 @@ use Prim.Native.Nat.{ℕ, zero, suc, ◌+◌, ◌-◌, pred, ◌≤◌, ◌<◌}
 use native.Mathlib.Numerals.{add-one, sub-one}
 use native.Mathlib.Omega.{arith}
 use mathlib.Core.Path.{◌≡◌, refl, sym, ap, ◌∙◌, subst}
-use mathlib.Core.Bool.{Bool, true, false}
+use mathlib.Core.Bool.{Bool}
 use mathlib.Core.List.{List, [], ◌∷◌}
-use lib.Dec.{eqb}
 use lib.ListN.{length}
-use borrow.Author.Tests.{eq-eqb, ne_eqb}
+use borrow.Author.Tests.{ne_eqb}
 use Rattle.model.specs.Layout.{none, most, base, node_size, header, height_word, word_at, length_word, parent_word, place_word, edges_word}
-use Rattle.model.specs.Tree.{Item, Node, Tree, Frame, Ctx, top, under, Whole, plug, fill}
+use Rattle.model.specs.Tree.{Item, Tree, Frame, Ctx, top, under, Whole, plug, fill}
 use Rattle.model.specs.Search.{Spot, gap, sink}
 use Rattle.model.specs.Walk.{right_in, right_of, left_in, left_of}
 use Rattle.model.specs.Range.{Opened, open_at, keys_of}
@@ -21,7 +20,6 @@ use Rattle.model.proofs.Plug.{length_fill}
 use Rattle.model.proofs.Forks.{StopsAt, down_at, hole_at, sink_open, open_filled}
 use Rattle.model.proofs.Held.{words_long, words_header}
 use Rattle.model.proofs.Standing.{parent_of, index_of, NodeAt, node_at, length_at, At, stands, below_at, short_at}
-use Rattle.node.specs.declared.Ascent.{Ascent}
 use Rattle.node.specs.declared.Ascent.TheVariants.{Edge, Root}
 use Rattle.node.specs.declared.NodeNo.{NodeNo}
 use Rattle.node.specs.declared.Place.{Place}

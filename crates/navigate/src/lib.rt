@@ -1,4 +1,6 @@
 // Steps along the pairs, by parent words, and the leaf edge of a start bound (navigate.rs).
+#![tactic(auto)]
+
 ghost use Rattle.std.specs.Prelude.{◌≡◌};
 ghost use Rattle.model.specs.Tree.{top};
 ghost use Rattle.model.specs.Search.{sink};

@@ -7,20 +7,20 @@ use native.Mathlib.Omega.{arith}
 use mathlib.Core.Bool.{Bool, true, false}
 use mathlib.Core.Logic.{◌⊎◌, inl, inr, ⊎_elim}
 use mathlib.Core.Path.{◌≡◌, refl, sym, ap, ◌∙◌, subst}
-use mathlib.Core.List.{List, [], ◌∷◌, ◌++◌, map, append-nil}
+use mathlib.Core.List.{List, [], ◌∷◌, ◌++◌, map}
 use lib.Dec.{eqb}
 use lib.ListN.{length, get_or, length-map}
 use borrow.Author.Tests.{le-leb, lt-leb, lt-ltb, eq-eqb, ne_eqb, eqb-true, eqb-false}
 use Rattle.model.specs.Lists.{All, times}
 use Rattle.model.specs.Layout.{most, base, node_size, keys_word, length_word, word_at, key_of}
-use Rattle.model.specs.Tree.{Pair, Item, Node, Tree, Frame, Ctx, top, under, Whole, flat, flats, has, has_in}
-use Rattle.model.specs.Map.{Rising, Below, Above}
-use Rattle.model.specs.Search.{Spot, at, scan, go_down, reaches, found_or, seek, search}
+use Rattle.model.specs.Tree.{Pair, Item, Tree, Ctx, top, under, flat, flats, has, has_in}
+use Rattle.model.specs.Map.{Rising}
+use Rattle.model.specs.Search.{scan, reaches, found_or, seek, search}
 use Rattle.model.specs.Range.{kv, key_index, keys_of, open_at}
 use Rattle.model.specs.State.{State}
 use Rattle.model.specs.Words.{pairs, Block, blocks_of, blocks, chain_blocks, blocks_in}
 use Rattle.model.specs.Promise.{Holds}
-use Rattle.model.proofs.Lists.{all_left, all_right, all_map, one_same, one_other}
+use Rattle.model.proofs.Lists.{all_left, all_right, all_map, one_other}
 use Rattle.model.proofs.Rising.{rising_left, rising_right, rising_below}
 use Rattle.model.proofs.Places.{pad_tab}
 use Rattle.model.proofs.Read.{Reads}

@@ -1,25 +1,25 @@
 -- A pair of an internal node: the pair before it, and the place where it stands when that is taken.
 -- Assumes nothing.
-use Prim.Native.Nat.{ℕ, zero, suc, ◌+◌, ◌-◌, pred, ◌≤◌, ◌<◌}
+use Prim.Native.Nat.{ℕ, zero, suc, ◌+◌, ◌-◌, pred, ◌≤◌}
 use native.Mathlib.Omega.{arith}
 use mathlib.Core.Path.{◌≡◌, refl, ap, ◌∙◌, sym, subst}
-use mathlib.Core.Option.{Option, some, none}
+use mathlib.Core.Option.{some, none}
 use mathlib.Core.List.{List, [], ◌∷◌, ◌++◌, append_assoc}
 use lib.ListN.{length}
-use Rattle.model.specs.Layout.{least, word_at, keys_word, NodeVal, nth, Arena}
-use Rattle.model.specs.Tree.{Pair, Item, Node, Tree, Frame, Ctx, top, under, Whole, plug, fill, flat, before, after, flat_of}
+use Rattle.model.specs.Layout.{least, NodeVal, nth, Arena}
+use Rattle.model.specs.Tree.{Pair, Item, Tree, Ctx, top, under, plug, fill, flat, before, after, flat_of}
 use Rattle.model.specs.Nodes.{Grown}
-use Rattle.model.specs.Search.{Spot, at, gap, search, last_edge}
+use Rattle.model.specs.Search.{Spot, at, gap, search}
 use Rattle.model.specs.Walk.{back_edge}
 use Rattle.model.specs.Map.{look}
 use Rattle.model.specs.Remove.{shrink, replace_at, replace, take_last, remove_at}
 use Rattle.model.specs.Mark.{seen_of, mark_of}
-use Rattle.model.specs.State.{State, list, Reply, delete_at}
+use Rattle.model.specs.State.{State, list, delete_at}
 use Rattle.model.specs.Sound.{Sound}
 use Rattle.model.specs.Promise.{Holds}
 use Rattle.model.specs.declared.Answer.TheVariants.{Value, Absent}
 use Rattle.model.proofs.Rising.{rising_below}
-use Rattle.model.proofs.Sizes.{Len, FullCtx, FullWhole, of_full, unplug_full}
+use Rattle.model.proofs.Sizes.{Len, FullWhole, of_full, unplug_full}
 use Rattle.model.proofs.Descent.{Sought, last_before, search_right}
 use Rattle.model.proofs.Repair.{shrink_flat}
 use Rattle.model.proofs.Removal.{LastOf, last_of}

@@ -1,26 +1,26 @@
 -- A pair taken out of its leaf, in words: up to the repair, and what that leaves.
 -- Assumes nothing.
-use Prim.Native.Nat.{ℕ, zero, suc, ◌+◌, ◌-◌, pred, ◌≤◌, ◌<◌}
+use Prim.Native.Nat.{ℕ, suc, ◌-◌, pred, ◌≤◌}
 use native.Mathlib.Omega.{arith}
-use mathlib.Core.Path.{◌≡◌, refl, ap, ◌∙◌, sym, subst}
-use mathlib.Core.List.{List, [], ◌∷◌}
+use mathlib.Core.Path.{◌≡◌, refl, ◌∙◌, sym, subst}
+use mathlib.Core.List.{List, ◌∷◌}
 use lib.ListN.{length, set}
-use Rattle.model.specs.Layout.{header_size, header, pairs_word, base, NodeVal, nth, Arena}
-use Rattle.model.specs.Tree.{Pair, Item, Tree, Ctx, Whole, plug, fill}
+use Rattle.model.specs.Layout.{header_size, header, pairs_word, NodeVal, nth, Arena}
+use Rattle.model.specs.Tree.{Tree, fill}
 use Rattle.model.specs.Nodes.{Grown}
 use Rattle.model.specs.Remove.{shrink}
 use Rattle.model.specs.State.{State, list}
 use Rattle.model.specs.Promise.{Holds}
 use Rattle.model.proofs.Arena.{arena_length, arena_header}
 use Rattle.model.proofs.Plug.{length_fill}
-use Rattle.model.proofs.Sizes.{RootLen, FullCtx, FullWhole, of_full, fits_node, len_short, unplug_full}
+use Rattle.model.proofs.Sizes.{RootLen, FullWhole, of_full, fits_node, len_short, unplug_full}
 use Rattle.node.specs.declared.Kv.{Kv}
 use Rattle.node.specs.Reading.{Has, pair_of, pair_at}
 use Rattle.store.proofs.Chain.{head_put}
 use Rattle.leaf.specs.Pairs.{PairAt, remove_pair}
 use Rattle.search.specs.declared.Handle.{Handle}
 use Rattle.shrinking.proofs.Pairs.{pair_ready, pair_is, remove_long, remove_step}
-use Rattle.standing.specs.Heads.{Rest, rest_of, head_words, top_of, HoleIn, ClosedIn}
+use Rattle.standing.specs.Heads.{rest_of, head_words, top_of, HoleIn, ClosedIn}
 use Rattle.remove.specs.Removals.{TakeCall}
 use Rattle.standing.specs.Standing.{Hole}
 use Rattle.slices.specs.Words.{remove_at}
@@ -29,7 +29,7 @@ use Rattle.shrinking.proofs.Pairs.{pairs_kept}
 use Rattle.totals.specs.Settling.{above, ample, Settles}
 use Rattle.totals.proofs.Settling.{top_above, due_here, part_few, hole_part, hole_kept}
 use Rattle.totals.proofs.Siblings.{SettleCall, set_same, removed_told}
-use Rattle.fix.specs.Repairs.{Mending, Mends}
+use Rattle.fix.specs.Repairs.{Mending}
 use Rattle.standing.specs.Standing.{root_of}
 use Rattle.remove.specs.Removals.{LeafKv, without}
 use Rattle.remove.proofs.States.{hole_of, holds_of, removed_sound, removed_pairs}

@@ -5,7 +5,7 @@ use native.Mathlib.Omega.{arith}
 use mathlib.Core.Path.{◌≡◌, refl, ap, ◌∙◌, sym, subst}
 use mathlib.Core.List.{List, [], ◌∷◌, ◌++◌}
 use lib.ListN.{length, length-append}
-use Rattle.model.specs.Lists.{All, times}
+use Rattle.model.specs.Lists.{times}
 use Rattle.model.specs.Layout.{format_number, header_size, base, Arena}
 use Rattle.model.specs.Tree.{Pair, Item, Tree, Ctx, Whole, plug, fill, flat, flats, lefts, before, after, flat_of, has_whole}
 use Rattle.model.specs.Nodes.{Grown}
@@ -25,7 +25,7 @@ use Rattle.model.proofs.Held.{held_of, words_long}
 use Rattle.model.proofs.Removal.{Leaves, remove_leaves}
 use Rattle.standing.specs.Standing.{root_of, Closed}
 use Rattle.standing.proofs.Scenes.{closed_of, enter, closed_words}
-use Rattle.standing.specs.Heads.{Rest, rest_of, head_words, top_of, HoleIn, ClosedIn}
+use Rattle.standing.specs.Heads.{rest_of, head_words, top_of, HoleIn, ClosedIn}
 use Rattle.standing.proofs.States.{laid_totals}
 use Rattle.model.proofs.Held.{sound_laid}
 use Rattle.standing.proofs.Heads.{plug_root, plug_top}

@@ -7,7 +7,7 @@ use Rattle.node.specs.Reading.{pair_of}
 use Rattle.model.specs.Promise.{Holds}
 use Rattle.standing.specs.Heads.{rest_of}
 use Rattle.standing.specs.Heads.{HoleIn}
-use Rattle.std.specs.Prelude.{ℕ, zero, suc, ◌≤◌, ◌≡◌, List, ◌∷◌, length}
+use Rattle.std.specs.Prelude.{ℕ, ◌≤◌, ◌≡◌, List, ◌∷◌, length}
 use Rattle.model.specs.Tree.{Item, Tree, Ctx, plug, fill}
 use Rattle.model.specs.Nodes.{Grown}
 use Rattle.model.specs.Remove.{shrink, remove_at}

@@ -5,24 +5,20 @@ use native.Mathlib.Numerals.{sub-one}
 use native.Mathlib.Omega.{arith}
 use mathlib.Core.Path.{◌≡◌, refl, sym, ap, ◌∙◌, subst}
 use mathlib.Core.List.{List, [], ◌∷◌}
-use lib.ListN.{length, drop, length-map}
+use lib.ListN.{length, length-map}
 use Rattle.model.specs.Lists.{part, Rises}
 use Rattle.model.specs.Layout.{most, base, node_size, word_at, length_word, keys_word, edges_word}
-use Rattle.model.specs.Tree.{Item, Tree, Ctx, top, under, Whole, flat_of}
+use Rattle.model.specs.Tree.{Ctx, top, under, Whole, flat_of}
 use Rattle.model.specs.Map.{Rising}
-use Rattle.model.specs.Search.{at, seek, search}
+use Rattle.model.specs.Search.{seek, search}
 use Rattle.model.specs.declared.SearchBound.{SearchBound}
 use Rattle.model.specs.declared.Range.{Range}
 use Rattle.model.specs.Range.{IndexResult, kv, edge, lower_edge, upper_edge, keys_of, open_at, fork, fork_of}
 use Rattle.model.specs.State.{State}
-use Rattle.model.specs.WellFormed.{WellFormed}
 use Rattle.model.specs.Promise.{Holds}
-use Rattle.model.proofs.Decode.{state_of}
-use Rattle.model.proofs.Forward.{forward}
 use Rattle.model.proofs.Sizes.{Len, RootLen, FullWhole, of_full, fits_node, unplug_full}
 use Rattle.model.proofs.Forks.{Ascends, node_ascends, down_at, open_length, seek_kv, seek_edge, lower_inside, low_at, high_at, bounds_at, fork_here, fork_below}
 use Rattle.model.proofs.Standing.{At, stands, below_at, length_at, short_at, keys_at}
-use Rattle.search.specs.declared.SearchResult.{SearchResult}
 use Rattle.search.specs.declared.SearchResult.TheVariants.{Found, GoDown}
 use Rattle.search.specs.declared.BoundEdge.{BoundEdge}
 use Rattle.search.specs.declared.Bifurcation.TheVariants.{Parted, Together}

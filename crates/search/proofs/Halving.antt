@@ -7,7 +7,7 @@ use mathlib.Core.Path.{◌≡◌, refl, sym, ap, ◌∙◌, subst}
 use mathlib.Core.List.{List, [], ◌∷◌}
 use lib.ListN.{length, get_or}
 use Rattle.model.specs.Lists.{All, Rises}
-use Rattle.model.specs.Range.{IndexResult, kv, edge}
+use Rattle.model.specs.Range.{kv, edge}
 use Rattle.search.proofs.Indexes.{index_from, index_past, index_kv, index_edge, index_end}
 
 -- ---- rising keys by places

@@ -1,19 +1,16 @@
 -- What the searches hand back, as records and enums of the code.
 -- Assumes nothing.
-use Rattle.std.specs.Prelude.{ℕ, zero, suc, List, length}
-use Rattle.model.specs.Tree.{Frame, Ctx, top, under}
+use Rattle.std.specs.Prelude.{ℕ, zero, length}
+use Rattle.model.specs.Tree.{Ctx, top, under}
 use Rattle.model.specs.Search.{Spot, at, gap}
 use Rattle.model.specs.Range as range
 use Rattle.model.specs.Range.{kv, edge, Fork, parted, together}
-use Rattle.node.specs.declared.NodeNo.{NodeNo}
-use Rattle.node.specs.declared.Place.{Place}
 use Rattle.search.specs.declared.Handle.{Handle}
 use Rattle.search.specs.declared.SearchResult.{SearchResult}
 use Rattle.search.specs.declared.SearchResult.TheVariants.{Found, GoDown}
 use Rattle.search.specs.declared.IndexResult.{IndexResult}
 use Rattle.search.specs.declared.IndexResult.TheVariants.{Kv, Edge}
 use Rattle.search.specs.declared.BoundEdge.{BoundEdge}
-use Rattle.search.specs.declared.Parting.{Parting}
 use Rattle.search.specs.declared.Bifurcation.{Bifurcation}
 use Rattle.search.specs.declared.Bifurcation.TheVariants.{Parted, Together}
 

@@ -1,4 +1,6 @@
 // Search in the tree: of a key, and of the edges of a range (search.rs).
+#![tactic(auto)]
+
 ghost use Rattle.std.specs.Prelude.{◌≡◌, ◌≤◌, length, drop};
 ghost use Rattle.model.specs.Search as model;
 ghost use Rattle.model.specs.Range.{key_index, lower_edge, upper_edge, fork_of};

@@ -1,0 +1,12 @@
+-- Assumes nothing.
+use Prim.Native.Nat.{ℕ, ◌-◌}
+use Rattle.model.specs.State.{State}
+use Rattle.model.specs.Promise.{Holds}
+use Rattle.insert.proofs.Needed.{Counting}
+use Rattle.insert.proofs.nodes_needed.Given as goal
+
+abbrev pub invariant-loop-node : goal.invariant-loop-node
+invariant-loop-node l = (total : ℕ) (s : State) → Holds l.initial.a s → Counting total s l.initial.node.0 l.initial.count → Counting total s l.node.0 l.count
+
+abbrev pub decreases-loop-node : goal.decreases-loop-node
+decreases-loop-node l = l.initial.top - l.count
