@@ -1,6 +1,6 @@
 -- A load brought to its end: the border stocked, every count set, the header written; from the words of a formatted arena to those of the loaded state.
 -- Assumes nothing.
-use Prim.Native.Nat.{ℕ, zero, suc, ◌+◌, ◌-◌, ◌*◌, ◌/◌, ◌%◌, ◌≤◌, ◌<◌}
+use Prim.Native.Nat.{ℕ, zero, suc, ◌+◌, ◌-◌, ◌/◌, ◌%◌, ◌≤◌, ◌<◌}
 use native.Mathlib.Nat.{div-add-mod', mod-lt}
 use native.Mathlib.Omega.{arith}
 use mathlib.Core.Path.{◌≡◌, refl, ap, ◌∙◌, sym, subst}
@@ -9,23 +9,23 @@ use lib.ListN.{length, get_or, set}
 use Rattle.model.specs.Lists.{All}
 use Rattle.model.specs.Layout.{header_size, pairs_word, seen_word, mark_word, header, root_word, height_word, NodeVal, Arena}
 use Rattle.model.specs.Tree.{Pair, Tree, top, Whole, plug}
-use Rattle.model.specs.Mark.{Mark, Covers, unseen, seen, seen_of, mark_of}
+use Rattle.model.specs.Mark.{Mark, Covers, seen, seen_of, mark_of}
 use Rattle.model.specs.Sound.{Sound, RootFull}
-use Rattle.model.specs.State.{State, formatted, list}
+use Rattle.model.specs.State.{formatted, list}
 use Rattle.model.specs.Words.{words_of}
-use Rattle.model.specs.Load.{Loading, push_all, begun, plenty, last_mark, loaded_with, loaded, pairs_of, Even}
+use Rattle.model.specs.Load.{Loading, push_all, begun, plenty, last_mark, loaded_with, pairs_of, Even}
 use Rattle.model.proofs.Sizes.{to_full}
 use Rattle.node.specs.Reading.{Has}
 use Rattle.standing.specs.Heads.{Rest, rest_of, ClosedBy, ClosedIn, Uncounted}
 use Rattle.standing.proofs.Scenes.{closed_words}
 use Rattle.totals.proofs.Settling.{hole_kept}
-use Rattle.counting.specs.Counting.{TreeIn, CountedIn}
+use Rattle.counting.specs.Counting.{TreeIn}
 use Rattle.counting.proofs.Counts.{CountCall}
 use Rattle.counting.proofs.Wholes.{all_total}
 use Rattle.fix.proofs.Holes.{hole_header, hole_long}
 use Rattle.loading.proofs.Runs.{pairs_half}
 use Rattle.loading.proofs.Loads.{load_list, load_sound, plenty_full, last_covers}
-use Rattle.appending.specs.Pushes.{free_from, LoadIn}
+use Rattle.appending.specs.Pushes.{free_from}
 use Rattle.appending.specs.Stocks.{Pushed}
 use Rattle.appending.specs.Runs.{Begun, BegunIn, Tells, Loads}
 use Rattle.appending.proofs.Runs.{formatted_begun}

@@ -3,17 +3,15 @@
 use Prim.Native.Nat.{ℕ, zero, suc, ◌+◌, ◌*◌, ◌/◌, ◌≤◌, ◌<◌}
 use native.Mathlib.Nat.{div-add-mod', mod-lt}
 use native.Mathlib.Omega.{arith}
-use mathlib.Core.Path.{◌≡◌, refl, sym, ap, ap₂, ◌∙◌, subst}
-use mathlib.Core.Logic.{inl, inr}
-use mathlib.Core.Bool.{Bool, true, false}
-use mathlib.Core.List.{List, [], ◌∷◌, ◌++◌, append_assoc, append-nil}
-use lib.Seq.{set_at, drop-cons}
+use mathlib.Core.Path.{◌≡◌, refl, sym, ap, ap₂, ◌∙◌}
+use mathlib.Core.List.{List, [], ◌∷◌, ◌++◌, append_assoc}
+use lib.Seq.{drop-cons}
 use lib.ListN.{length, get_or, drop, set, length-append}
 use borrow.Author.Tests.{ne_eqb}
 use Rattle.model.specs.declared.Answer.{Answer}
-use Rattle.model.specs.declared.Answer.TheVariants.{Done, BadOrder}
-use Rattle.model.specs.Answer.{Numbers, numbers_of}
-use Rattle.model.specs.State.{State, Reply, Order, kind_of, order_as, order, put_code, get_code, delete_code, reserve_code, triples, after_all, answers}
+use Rattle.model.specs.declared.Answer.TheVariants.{BadOrder}
+use Rattle.model.specs.Answer.{numbers_of}
+use Rattle.model.specs.State.{State, Order, kind_of, order_as, order, put_code, get_code, delete_code, reserve_code, triples, after_all, answers}
 use Rattle.model.specs.Words.{words_of}
 use Rattle.model.specs.Promise.{Holds, Fits, Does}
 use Rattle.model.proofs.Calls.{order_sound}

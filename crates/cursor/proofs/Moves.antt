@@ -2,21 +2,16 @@
 -- Assumes nothing.
 use Prim.Native.Nat.{ℕ, zero, suc, ◌+◌, ◌≤◌, ◌<◌}
 use native.Mathlib.Omega.{arith}
-use mathlib.Core.Path.{◌≡◌, refl, sym, ap, ap₂, ◌∙◌, subst}
+use mathlib.Core.Path.{◌≡◌, refl, sym, ap, ◌∙◌, subst}
 use mathlib.Core.Logic.{inl, inr}
-use mathlib.Core.Bool.{true, false, not}
-use mathlib.Core.List.{List, [], ◌∷◌, ◌++◌}
-use mathlib.Core.Option.{some, none}
-use lib.Dec.{eqb}
+use mathlib.Core.List.{List, [], ◌∷◌}
+use mathlib.Core.Option.{none}
 use lib.ListN.{length}
-use borrow.Author.Tests.{eq-eqb}
-use Rattle.model.specs.declared.Answer.{Answer}
 use Rattle.model.specs.declared.Answer.TheVariants.{BadArena, Value, Absent, StaleCursor}
-use Rattle.model.specs.declared.Picked.{Picked}
 use Rattle.model.specs.declared.SearchBound.{SearchBound}
 use Rattle.model.specs.declared.SearchBound.TheVariants.{AllIncluded}
 use Rattle.model.specs.Layout.{most, base, node_size, header, height_word, word_at, state_word, keys_word, values_word, edges_word, internal}
-use Rattle.model.specs.Tree.{Pair, Item, Tree, Ctx, top, Whole, plug, after, before}
+use Rattle.model.specs.Tree.{Pair, top, Whole, after, before}
 use Rattle.model.specs.Search.{Spot, at, gap}
 use Rattle.model.specs.Walk.{next_kv, back_kv, next_edge, back_edge}
 use Rattle.model.specs.Map.{picked}
@@ -33,19 +28,18 @@ use Rattle.node.specs.declared.NodeNo.{NodeNo}
 use Rattle.node.specs.declared.Place.{Place}
 use Rattle.search.specs.declared.Handle.{Handle}
 use Rattle.search.specs.Results.{leaf_edge}
-use Rattle.navigate.specs.declared.Next.{Next}
 use Rattle.navigate.specs.declared.Next.TheVariants.{Kv, End}
 use Rattle.navigate.specs.Places.{InTree, EdgeAt, KvAt, stepped}
-use Rattle.navigate.proofs.Pairs.{Placed, step_placed, kv_within, kv_key, kv_val}
-use Rattle.navigate.proofs.Steps.{Climb, climb_top}
+use Rattle.navigate.proofs.Pairs.{step_placed, kv_within, kv_key, kv_val}
+use Rattle.navigate.proofs.Steps.{climb_top}
 use Rattle.walking.specs.Arrived.{arrived}
 use Rattle.walking.specs.Walking.{Stale}
 use Rattle.walking.proofs.Walks.{exactly_stale, at_the_ends}
 use Rattle.walking.proofs.Live.{PlaceAt, live_at, live_place}
-use Rattle.walking.proofs.Spots.{start_of, seek_arrives, end_of, last_arrives, next_arrives, previous_arrives}
+use Rattle.walking.proofs.Spots.{start_of, end_of, next_arrives, previous_arrives}
 use Rattle.cursor.specs.declared.Cursor.{Cursor}
 use Rattle.cursor.specs.declared.Moved.{Moved}
-use Rattle.cursor.specs.Cursors.{stop_of, stand_of, cursor_of, moved_of, standing, Stepping, InNode}
+use Rattle.cursor.specs.Cursors.{stop_of, stand_of, cursor_of, moved_of, standing}
 
 -- ---- where a step ends
 

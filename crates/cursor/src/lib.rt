@@ -1,4 +1,6 @@
 // The walking cursor (map.rs, Cursor): a small value that goes from pair to pair, both ways. Each call checks the arena first.
+#![tactic(auto)]
+
 ghost use Rattle.std.specs.Prelude.{◌≡◌, ℕ};
 ghost use Rattle.model.specs.Search.{Spot};
 ghost use Rattle.model.specs.State.{State, At};

@@ -5,10 +5,10 @@ use native.Mathlib.Decide.{dec_lt}
 use native.Mathlib.Omega.{arith}
 use mathlib.Core.Path.{◌≡◌, refl, sym, ap, ◌∙◌, subst}
 use mathlib.Core.Bool.{Bool, true, false, cond}
-use mathlib.Core.List.{List, [], ◌∷◌}
+use mathlib.Core.List.{List, []}
 use lib.ListN.{length, get_or}
 use Rattle.model.specs.Lists.{times}
-use Rattle.model.specs.Layout.{largest_count, NodeVal, nth, blank}
+use Rattle.model.specs.Layout.{largest_count, NodeVal, nth}
 use Rattle.model.specs.Tree.{Tree, top, Whole, has, has_whole}
 use Rattle.model.specs.Words.{root_no, free_val}
 use Rattle.store.specs.Links.{body_of, link_of}

@@ -5,19 +5,19 @@ use native.Mathlib.Decide.{dec_lt}
 use native.Mathlib.Omega.{arith}
 use mathlib.Core.Path.{◌≡◌, refl, sym, ap, ap₂, ◌∙◌, subst}
 use mathlib.Core.Bool.{Bool, true, false, cond}
-use mathlib.Core.List.{List, [], ◌∷◌, ◌++◌}
+use mathlib.Core.List.{List, ◌++◌}
 use lib.Dec.{ltb}
 use lib.ListN.{length, set}
 use lib.Seq.{ext_get_or}
 use borrow.Author.Tests.{lt-ltb, ltb-true}
 use Rattle.model.specs.Lists.{All, Rises, times}
 use Rattle.model.specs.Layout.{none, header, height_word, pairs_word, NodeVal, nth, blank, arena_by, Arena}
-use Rattle.model.specs.Tree.{Pair, Tree, Ctx, top, under, Whole, plug, fill, flat, flat_of, before, after, has_ctx, has_whole}
+use Rattle.model.specs.Tree.{Tree, Ctx, top, under, Whole, plug, fill, flat, before, has_ctx, has_whole}
 use Rattle.model.specs.Map.{Below}
 use Rattle.model.specs.State.{State, list}
-use Rattle.model.specs.Words.{root_no, free_val, first_or, Block, blocks, chain_blocks, blocks_in, nodes_in, header_of, words_of_by, words_of}
+use Rattle.model.specs.Words.{root_no, blocks, chain_blocks, blocks_in, nodes_in, header_of, words_of_by, words_of}
 use Rattle.model.specs.Sound.{Sound}
-use Rattle.model.specs.Parting.{path_of, trimmed, dropped, returned_all}
+use Rattle.model.specs.Parting.{path_of, trimmed, dropped}
 use Rattle.model.proofs.Lists.{all_append, times_append}
 use Rattle.model.proofs.Frees.{rises_sorted, once_rises}
 use Rattle.model.proofs.Sizes.{FullCtx, FullWhole, Fitting, of_full, unplug_full}

@@ -5,18 +5,18 @@ use native.Mathlib.Decide.{ℕ_discrete, dec_lt}
 use native.Mathlib.Omega.{arith}
 use mathlib.Core.Path.{◌≡◌, refl, sym, ap, ◌∙◌, subst}
 use mathlib.Core.Bool.{Bool, true, false, cond}
-use mathlib.Core.List.{List, [], ◌∷◌, ◌++◌, map}
-use lib.Dec.{eqb, leb}
+use mathlib.Core.List.{List, [], ◌∷◌, map}
+use lib.Dec.{eqb}
 use lib.ListN.{length, get_or, length-map}
 use borrow.Author.Tests.{le-leb, lt-leb, eqb-true}
 use Rattle.model.specs.Lists.{All, one, times}
-use Rattle.model.specs.Layout.{least, NodeVal, nth}
-use Rattle.model.specs.Tree.{Pair, Item, Node, Tree, Ctx, top, under, Whole, flat, flats, after, has_in, has, numbers_in, numbers}
+use Rattle.model.specs.Layout.{NodeVal, nth}
+use Rattle.model.specs.Tree.{Pair, Item, Tree, Ctx, top, under, flat, flats, after, has_in, has, numbers_in, numbers}
 use Rattle.model.specs.Words.{kind, root_no}
 use Rattle.model.specs.Map.{Below}
 use Rattle.model.specs.Sound.{AllIn, Full}
 use Rattle.model.specs.Parting.{dropped}
-use Rattle.model.proofs.Lists.{one_same, one_other, all_left, all_right, times_append}
+use Rattle.model.proofs.Lists.{one_other, all_left, all_right, times_append}
 use Rattle.model.proofs.Sizes.{FullCtx}
 use Rattle.store.specs.Links.{Body, body_of}
 use Rattle.standing.specs.Standing.{numbered, content, Stands, Way}

@@ -1,21 +1,20 @@
 -- The pass over all nodes: turn by turn; and a tree whose nodes stay, with all others as its free chain.
 -- Assumes nothing.
 use Prim.Native.Nat.{ℕ, zero, suc, ◌+◌, ◌-◌, ◌≤◌, ◌<◌}
-use native.Mathlib.Decide.{ℕ_discrete, dec_lt}
 use native.Mathlib.Omega.{arith}
 use mathlib.Core.Path.{◌≡◌, refl, sym, ap, ap₂, ◌∙◌, subst}
 use mathlib.Core.Bool.{Bool, true, false, cond}
 use mathlib.Core.List.{List, [], ◌∷◌, ◌++◌}
-use lib.ListN.{length, take, drop, get_or, set}
+use lib.ListN.{length, take, drop, set}
 use lib.Seq.{take-suc, drop-cons, append_snoc, set_at, get_or_at, length-take-le, take_all}
 use lib.Dec.{leb, eqb, lit<}
 use lib.ListN.{drop_of_length-le, length-append, length-drop}
 use borrow.Author.Tests.{ne_eqb}
-use Rattle.model.specs.Lists.{All, AllAbove, Rises, one, times}
+use Rattle.model.specs.Lists.{All, AllAbove, Rises, times}
 use Rattle.model.specs.Layout.{none, first_free_word, free_word, state_word, length_word, keys_word, key_of, word_at, NodeVal, nth, blank, Arena}
 use Rattle.model.specs.Tree.{Pair}
 use Rattle.model.specs.Words.{free_val, first_or, chain_blocks, Written}
-use Rattle.model.proofs.Lists.{one_same, one_other, all_map}
+use Rattle.model.proofs.Lists.{one_same, one_other}
 use Rattle.node.specs.Reading.{pair_at}
 use Rattle.node.proofs.Reading.{state_is, len_is, key_is}
 use Rattle.store.proofs.Chain.{head_put}
@@ -119,7 +118,7 @@ module _ (k : ℕ) where
       none = times_above i (freed k (suc i) ns) (freed_above (suc i) i ns (omega arith))
 
       go : (b : Bool) → times (i + 0) (cond b (i ∷ freed k (suc i) ns) (freed k (suc i) ns)) ≡ cond b 1 0
-      go true = rw z (omega (arith, one_same i i refl, none))
+      go true = ap (λ (q : ℕ). times q (i ∷ freed k (suc i) ns)) z ∙ omega (arith, one_same i i refl, none)
       go false = rw z none
   freed_count i (v ∷ ns) (suc m) l = ap (λ (q : ℕ). times q (freed k i (v ∷ ns))) z ∙ go (goes k v) ∙ freed_count (suc i) ns m (omega arith)
     where

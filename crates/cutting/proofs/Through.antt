@@ -1,11 +1,11 @@
 -- The cut on the words of a sound state, step by step.
 -- Assumes nothing.
-use Prim.Native.Nat.{ℕ, ◌≤◌, ◌<◌}
-use mathlib.Core.Path.{◌≡◌, refl, sym, ap, ◌∙◌, subst}
+use Prim.Native.Nat.{ℕ, ◌≤◌}
+use mathlib.Core.Path.{◌≡◌, sym, ap, ◌∙◌, subst}
 use mathlib.Core.List.{List}
 use lib.Dec.{lit<}
 use lib.ListN.{length, get_or, set}
-use Rattle.model.specs.Layout.{largest_count, header, height_word, count_word, root_word, pairs_word, total_word, word_at, NodeVal, nth, Arena}
+use Rattle.model.specs.Layout.{largest_count, header, height_word, count_word, root_word, pairs_word, total_word, word_at, NodeVal, Arena}
 use Rattle.model.specs.Insert.{right}
 use Rattle.model.specs.State.{State, list}
 use Rattle.model.specs.Words.{root_no, header_of, words_of}

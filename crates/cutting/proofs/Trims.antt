@@ -1,42 +1,31 @@
 -- A node shortened to its first pairs, and the step to the node above.
 -- Assumes nothing.
-use Prim.Native.Nat.{ℕ, zero, suc, ◌+◌, ◌-◌, ◌≤◌, ◌<◌}
+use Prim.Native.Nat.{ℕ, zero, suc, ◌+◌, ◌≤◌, ◌<◌}
 use native.Mathlib.Decide.{ℕ_discrete, dec_lt}
 use native.Mathlib.Numerals.{add-one}
 use native.Mathlib.Omega.{arith}
 use mathlib.Core.Path.{◌≡◌, refl, sym, ap, ap₂, ◌∙◌, subst}
 use mathlib.Core.Logic.{◌≢◌}
 use mathlib.Core.List.{List, [], ◌∷◌, map}
-use lib.Dec.{lit<}
-use lib.ListN.{length, take, get_or, set, length-map, length-set, length-take}
+use lib.ListN.{length, take, get_or, length-map, length-set, length-take}
 use lib.Seq.{get_or-set_same, get_or-set_other, set_out, get_or-take, take-nil}
-use Rattle.model.specs.Lists.{times, one}
-use Rattle.model.specs.Layout.{none, most, largest_count, header, height_word, word_at, parent_word, place_word, NodeVal, nth, blank, Arena}
-use Rattle.model.specs.Tree.{Pair, Item, Node, Tree, Frame, Ctx, top, under, Whole, plug, fill, fill_first, fill_rest, flat, has_in, has, has_ctx}
+use Rattle.model.specs.Layout.{most, largest_count, NodeVal, nth, blank, Arena}
+use Rattle.model.specs.Tree.{Pair, Item, Tree, Frame, Ctx, under, fill, fill_first, fill_rest, has}
 use Rattle.model.specs.Words.{root_no, kind}
-use Rattle.model.specs.Parting.{trimmed}
-use Rattle.model.proofs.Lists.{one_same, one_other}
+use Rattle.model.proofs.Lists.{one_same}
 use Rattle.model.proofs.Plug.{length_fill, has_fill}
 use Rattle.model.proofs.Sizes.{fill_parts}
-use Rattle.node.specs.declared.NodeNo.{NodeNo}
-use Rattle.node.specs.declared.Place.{Place}
-use Rattle.node.specs.declared.Ascent.TheVariants.{Edge, Root}
-use Rattle.node.specs.Reading.{Within, ascent_of}
-use Rattle.node.proofs.Reading.{within, parent_is, place_is, ascent_root, ascent_edge}
-use Rattle.store.specs.Links.{Body, Link, body_of, link_of, with_body}
-use Rattle.store.proofs.Chain.{head_is}
-use Rattle.balance.specs.Moves.{Shaped}
+use Rattle.store.specs.Links.{Body, body_of, link_of, with_body}
 use Rattle.standing.specs.Kept.{Child, Links, Kept}
-use Rattle.standing.specs.Standing.{numbered, edges_in, content, content_of, Stands, Way, root_of, Hole}
-use Rattle.standing.specs.Heads.{top_of}
-use Rattle.standing.specs.Totals.{totals, due, TotalsBut, Totals, recount, with_total}
-use Rattle.standing.proofs.Leads.{one_self, link_parent, link_place}
+use Rattle.standing.specs.Standing.{numbered, edges_in, content_of, Stands, root_of}
+use Rattle.standing.specs.Totals.{totals, TotalsBut}
+use Rattle.standing.proofs.Leads.{one_self, link_parent}
 use Rattle.standing.proofs.Frames.{stands_kept, all_kept, way_kept}
 use Rattle.standing.proofs.Contents.{content_fill}
 use Rattle.shrinking.proofs.Steps.{shaped}
-use Rattle.totals.specs.Settling.{above, ample, Part}
-use Rattle.totals.proofs.Settling.{due_flat, hole_part, part_out, hangs, root_inside, due_here, right_part, settle_root, up_told, flat_few, arena_small}
-use Rattle.cutting.specs.Trims.{shortened, cut_node, CutReady, spine, Goal, Trims, TrimsIn, Trimmed}
+use Rattle.totals.specs.Settling.{Part}
+use Rattle.totals.proofs.Settling.{root_inside, due_here, flat_few, arena_small}
+use Rattle.cutting.specs.Trims.{shortened, CutReady}
 
 -- ---- the items of a node, with those right of the hole cut off
 

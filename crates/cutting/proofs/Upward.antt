@@ -1,15 +1,15 @@
 -- A turn of the cut: one node shortened and its count set right, then the node above.
 -- Assumes nothing.
-use Prim.Native.Nat.{ℕ, zero, suc, ◌+◌, ◌-◌, ◌≤◌, ◌<◌}
+use Prim.Native.Nat.{ℕ, suc, ◌+◌, ◌-◌, ◌≤◌, ◌<◌}
 use native.Mathlib.Omega.{arith}
-use mathlib.Core.Path.{◌≡◌, refl, sym, ap, ap₂, ◌∙◌, subst}
+use mathlib.Core.Path.{◌≡◌, sym, ap, ap₂, ◌∙◌, subst}
 use mathlib.Core.List.{List, [], ◌∷◌}
 use lib.Dec.{lit<}
 use lib.ListN.{length, get_or, length-set}
 use lib.Seq.{get_or-set_other}
 use Rattle.model.specs.Lists.{times}
-use Rattle.model.specs.Layout.{none, header, height_word, word_at, parent_word, place_word, NodeVal, nth, blank, Arena}
-use Rattle.model.specs.Tree.{Tree, Frame, Ctx, top, under, Whole, plug, fill}
+use Rattle.model.specs.Layout.{header, height_word, word_at, parent_word, place_word, NodeVal, nth, blank, Arena}
+use Rattle.model.specs.Tree.{Tree, Ctx, top, under, Whole, plug, fill}
 use Rattle.model.specs.Parting.{trimmed}
 use Rattle.model.proofs.Lists.{one_same}
 use Rattle.node.specs.declared.NodeNo.{NodeNo}
@@ -17,14 +17,12 @@ use Rattle.node.specs.declared.Place.{Place}
 use Rattle.node.specs.declared.Ascent.TheVariants.{Edge, Root}
 use Rattle.node.specs.Reading.{Within, ascent_of}
 use Rattle.node.proofs.Reading.{within, parent_is, place_is, ascent_root, ascent_edge}
-use Rattle.store.specs.Links.{link_of}
 use Rattle.store.proofs.Chain.{head_is}
-use Rattle.standing.specs.Standing.{Hole}
-use Rattle.standing.specs.Totals.{due, TotalsBut, Totals, recount, with_total}
-use Rattle.standing.proofs.Leads.{one_self, link_parent, link_place}
+use Rattle.standing.specs.Totals.{due, TotalsBut, with_total}
+use Rattle.standing.proofs.Leads.{link_parent, link_place}
 use Rattle.totals.specs.Settling.{above, Part}
-use Rattle.totals.proofs.Settling.{part_out, hangs, root_inside, right_part, settle_root, up_told}
-use Rattle.cutting.specs.Trims.{shortened, cut_node, CutReady, spine, Goal, Trims, TrimsIn, Trimmed}
+use Rattle.totals.proofs.Settling.{hangs, right_part, settle_root, up_told}
+use Rattle.cutting.specs.Trims.{shortened, cut_node, CutReady, spine, Goal, Trims, Trimmed}
 use Rattle.cutting.proofs.Trims.{short_other, cut_inside, cut_part, cut_told, cut_ready}
 
 abbrev pub CutCall : List ℕ → List ℕ → ℕ → ℕ → Type 0

@@ -4,13 +4,12 @@ use Prim.Native.Nat.{ℕ, zero, suc, ◌≤◌, ◌<◌}
 use native.Mathlib.Omega.{arith}
 use mathlib.Core.Path.{◌≡◌, refl, sym, ap, ◌∙◌, subst}
 use mathlib.Core.List.{List, [], ◌∷◌}
-use lib.Dec.{ltb}
 use lib.ListN.{length, set}
 use borrow.Author.Tests.{lt-ltb, le-ltb}
 use Rattle.model.specs.declared.Picked.{Picked}
 use Rattle.model.specs.Layout.{none}
 use Rattle.model.specs.Answer.{numbers_of}
-use Rattle.model.specs.Cursor.{Stand, on, Cursor}
+use Rattle.model.specs.Cursor.{on, Cursor}
 use Rattle.cursor.specs.declared.Cursor as code
 use Rattle.cursor.specs.declared.Moved.{Moved}
 use Rattle.cursor.specs.Cursors.{cursor_of}

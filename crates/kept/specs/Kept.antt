@@ -1,7 +1,6 @@
 -- A cursor as four words, and what a call leaves in them.
 -- Assumes nothing.
 use Rattle.std.specs.Prelude.{ℕ, zero, suc, ◌≡◌, cond, List, [], ◌∷◌, ltb, length, get_or}
-use Rattle.model.specs.declared.Answer.{Answer}
 use Rattle.model.specs.declared.Answer.TheVariants.{BadRange}
 use Rattle.model.specs.declared.Picked.{Picked}
 use Rattle.model.specs.Layout.{none}

@@ -1,5 +1,7 @@
 // A cursor as the four words that a caller in C keeps: its count, where it stands (0 before the first pair, 1 at a pair, 2 past the last), the
 // node and the place. Any other number of words is refused before everything.
+#![tactic(auto)]
+
 ghost use Rattle.std.specs.Prelude.{◌≡◌, [], ◌∷◌, length, get_or};
 ghost use Rattle.model.specs.Public.{Promised};
 ghost use Rattle.model.specs.Public as promise;

@@ -5,17 +5,16 @@ use native.Mathlib.Nat.{div-add-mod'}
 use native.Mathlib.Omega.{arith}
 use mathlib.Core.Path.{◌≡◌, refl, sym, ap, ap₂, ◌∙◌, subst}
 use mathlib.Core.Bool.{Bool, true, false}
-use mathlib.Core.Logic.{inr}
 use mathlib.Core.List.{List, [], ◌∷◌, ◌++◌, append_assoc, append-nil}
 use lib.Dec.{ltb}
 use lib.Seq.{take_at}
-use lib.ListN.{length, get_or, take, drop, set, length-append}
+use lib.ListN.{length, take, drop, set, length-append}
 use borrow.Author.Tests.{lt-ltb, le-ltb}
 use Rattle.model.specs.declared.Answer.TheVariants.{Done}
 use Rattle.model.specs.declared.SearchBound.{SearchBound}
 use Rattle.model.specs.declared.Range.{Range}
 use Rattle.model.specs.declared.Listed.{Listed}
-use Rattle.model.specs.Tree.{Pair, Ctx, Whole, plug, fill, after}
+use Rattle.model.specs.Tree.{Pair, Ctx, Whole, plug, after}
 use Rattle.model.specs.Search.{Spot, at, gap}
 use Rattle.model.specs.Walk.{next_kv, next_edge}
 use Rattle.model.specs.Range.{to_end}

@@ -1,6 +1,6 @@
 -- What a walk from a leaf edge writes.
 -- Assumes nothing.
-use Rattle.std.specs.Prelude.{ℕ, zero, ◌≡◌, Bool, List, ltb, length, take}
+use Rattle.std.specs.Prelude.{ℕ, zero, ◌≡◌, List, ltb, length, take}
 use Rattle.model.specs.declared.Answer.TheVariants.{Done}
 use Rattle.model.specs.declared.SearchBound.{SearchBound}
 use Rattle.model.specs.declared.Listed.{Listed}

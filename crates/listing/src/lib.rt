@@ -1,4 +1,6 @@
 // The listing of a range (map.rs, range): the first pairs, rising, as many as the output has room for.
+#![tactic(auto)]
+
 ghost use Rattle.std.specs.Prelude.{◌≡◌};
 ghost use Rattle.model.specs.Range.{bad_range, to_end};
 ghost use Rattle.model.specs.State.{State};

@@ -35,7 +35,6 @@ use Rattle.navigate.specs.Places.{In, EdgeAt}
 use Rattle.listing.proofs.Sofar.{laid_more, Sight}
 use Rattle.merging.specs.declared.Head.{Head}
 use Rattle.merging.specs.declared.Head.TheVariants as head
-use Rattle.merging.specs.declared.Merged.TheVariants as merged
 use Rattle.merging.specs.Heads.{HeadOf, HeadIn, Stepped}
 
 -- ---- one walk

@@ -1,4 +1,6 @@
 // The pairs of two trees merged in order (append.rs, MergeIter): one walk over both; of a key in both the second's pair.
+#![tactic(auto)]
+
 ghost use Rattle.std.specs.Prelude.{◌≡◌, List, ◌*◌, length};
 ghost use Rattle.model.specs.Tree.{Pair, after};
 ghost use Rattle.model.specs.State.{State, list};

@@ -12,21 +12,19 @@ use lib.Dec.{lit<}
 use lib.ListN.{length, length-append, length-map}
 use Rattle.model.specs.declared.SearchBound.{SearchBound}
 use Rattle.model.specs.Lists.{part}
-use Rattle.model.specs.Layout.{most, largest_count, base, header, pairs_word, word_at, length_word, keys_word, edges_word, total_word}
-use Rattle.model.specs.Tree.{Pair, Item, Tree, Ctx, top, under, Whole, plug, fill, flat, flats, flat_of, lefts, before, after}
+use Rattle.model.specs.Layout.{most, largest_count, base, pairs_word, word_at, length_word, keys_word, edges_word, total_word}
+use Rattle.model.specs.Tree.{Pair, Item, Tree, Ctx, Whole, plug, fill, flat, flats, flat_of, lefts, before, after}
 use Rattle.model.specs.Search.{sink}
 use Rattle.model.specs.Range as range
 use Rattle.model.specs.Range.{open_at, lower_edge, keys_of}
 use Rattle.model.specs.Map.{Rising, nth}
 use Rattle.model.specs.State.{State, list}
-use Rattle.model.specs.WellFormed.{WellFormed}
 use Rattle.model.specs.Promise.{Holds}
 use Rattle.model.proofs.Plug.{flat_plug}
 use Rattle.model.proofs.Bounds.{few}
 use Rattle.model.proofs.Backward.{header_is, backward}
-use Rattle.model.proofs.Forks.{starts, down_at, hole_at, open_length, open_fill, lower_step, lower_inside}
+use Rattle.model.proofs.Forks.{starts, hole_at, open_length, open_fill, lower_step, lower_inside}
 use Rattle.model.proofs.Standing.{At, stands, below_at, short_at}
-use Rattle.search.specs.declared.Handle.{Handle}
 use Rattle.search.specs.declared.BoundEdge.{BoundEdge}
 use Rattle.search.specs.Results.{edged}
 use Rattle.search.proofs.Descents.{keys_are}

@@ -1,11 +1,11 @@
 -- The descents' ends as the promises have them.
 -- Assumes nothing.
-use Prim.Native.Nat.{ℕ, zero, suc, ◌+◌, ◌-◌, ◌≤◌, ◌<◌}
+use Prim.Native.Nat.{ℕ, zero, ◌-◌, ◌≤◌}
 use native.Mathlib.Omega.{arith}
 use mathlib.Core.Path.{◌≡◌, refl, sym, ap, ap₂, ◌∙◌, subst}
-use mathlib.Core.Bool.{Bool, true, false}
+use mathlib.Core.Bool.{true, false}
 use mathlib.Core.Logic.{inl, inr}
-use mathlib.Core.List.{List, ◌++◌}
+use mathlib.Core.List.{List}
 use lib.Dec.{lit<}
 use lib.ListN.{length}
 use Rattle.model.specs.declared.Answer.TheVariants.{Done, Value, BadArena, BadRange, Absent}
@@ -15,10 +15,10 @@ use Rattle.model.specs.declared.Range.{Range}
 use Rattle.model.specs.declared.SearchBound.{SearchBound}
 use Rattle.model.specs.declared.SearchBound.TheVariants.{Included, AllIncluded}
 use Rattle.model.specs.Layout.{header, pairs_word}
-use Rattle.model.specs.Tree.{Pair, Ctx, top, flat_of, before, after}
+use Rattle.model.specs.Tree.{Ctx, top, flat_of, before, after}
 use Rattle.model.specs.Search.{sink}
 use Rattle.model.specs.Range.{bad_range}
-use Rattle.model.specs.Map.{rank, count_of, nth, picked}
+use Rattle.model.specs.Map.{picked}
 use Rattle.model.specs.State.{State, list}
 use Rattle.model.specs.WellFormed.{WellFormed}
 use Rattle.model.specs.Promise.{Holds, Rank, Count, AtRank}

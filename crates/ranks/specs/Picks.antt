@@ -1,8 +1,8 @@
 -- A rank on its way down: which edge or pair of a node it falls on.
 -- Assumes nothing.
-use Rattle.std.specs.Prelude.{ℕ, zero, suc, ◌+◌, ◌≤◌, ◌<◌, ◌≡◌, Bool, true, false, List, [], ◌∷◌, length}
+use Rattle.std.specs.Prelude.{ℕ, suc, ◌≤◌, ◌<◌, ◌≡◌, Bool, true, false, List, [], ◌∷◌, length}
 use Rattle.std.proofs.Math.Option.{some}
-use Rattle.model.specs.Tree.{Pair, Item, Tree, flat}
+use Rattle.model.specs.Tree.{Item, Tree, flat}
 use Rattle.model.specs.Range.{open_at}
 use Rattle.model.specs.Map.{nth}
 use Rattle.model.specs.State.{State, At, list}

@@ -1,4 +1,6 @@
 // How many keys are smaller, how many pairs a range has, and which pair is at a rank: each by a descent along the counts.
+#![tactic(auto)]
+
 ghost use Rattle.std.specs.Prelude.{◌≡◌, ℕ, suc, ◌≤◌, ◌<◌, [], length};
 ghost use Rattle.model.specs.Layout.{header, pairs_word};
 ghost use Rattle.model.specs.Tree.{top, flat, lefts, before};

@@ -9,7 +9,7 @@ use mathlib.Core.List.{List, [], ◌∷◌, ◌++◌, append-nil}
 use lib.Dec.{ltb}
 use lib.ListN.{length, take, drop, get_or, set, length-set, length-append, length-drop, take-append-drop, drop_of_length-le}
 use lib.Seq.{drop-cons, take_all, length-take-le, get_or-set_same, get_or-set_other}
-use Rattle.model.specs.Layout.{header_size, header, seen_word, mark_word, arena_by, arena}
+use Rattle.model.specs.Layout.{header_size, header, seen_word, mark_word, arena_by}
 use Rattle.model.specs.Mark.{Mark, unseen, seen, higher, lower, seen_of, mark_of, mark_by, stored_mark}
 use Rattle.model.specs.State.{State, restored}
 use Rattle.model.specs.Words.{words_of_by, words_of}

@@ -1,4 +1,6 @@
 // Restore: an image's words over the arena's, but the mark never falls.
+#![tactic(auto)]
+
 ghost use Rattle.std.specs.Prelude.{◌≡◌, true, false, ◌≤◌, length, set};
 ghost use Rattle.model.specs.Layout.{header_size, header, seen_word, mark_word};
 ghost use Rattle.model.specs.Mark as mark;

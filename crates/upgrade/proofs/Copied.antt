@@ -1,12 +1,12 @@
 -- The words copied, node by node; and what they hold.
 -- Assumes nothing.
-use Prim.Native.Nat.{ℕ, zero, suc, ◌+◌, ◌*◌, ◌-◌, ◌≤◌, ◌<◌}
+use Prim.Native.Nat.{ℕ, zero, suc, ◌+◌, ◌-◌, ◌≤◌, ◌<◌}
 use native.Mathlib.Numerals.{add-one}
 use native.Mathlib.Omega.{arith}
-use mathlib.Core.Path.{◌≡◌, refl, sym, ap, ap₂, ◌∙◌, subst}
-use mathlib.Core.List.{List, [], ◌∷◌, ◌++◌, map, append_assoc, append-nil}
-use lib.ListN.{length, take, drop, get_or, set, length-append, length-take, length-map, length-drop, drop_of_length-le}
-use Rattle.model.specs.Lists.{All, part}
+use mathlib.Core.Path.{◌≡◌, refl, sym, ap, ap₂, ◌∙◌}
+use mathlib.Core.List.{List, [], ◌∷◌, ◌++◌, append_assoc, append-nil}
+use lib.ListN.{length, take, drop, get_or, set, length-append, length-take, length-drop, drop_of_length-le}
+use Rattle.model.specs.Lists.{part}
 use Rattle.model.specs.declared.Layout.TheVariants.{Format1}
 use Rattle.model.specs.Layout.{header_size, node_size, total_word, base_by, base}
 use Rattle.slices.specs.Words.{splice}

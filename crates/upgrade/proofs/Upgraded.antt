@@ -3,11 +3,11 @@
 use Prim.Native.Nat.{ℕ, zero, suc, ◌+◌, ◌≤◌, ◌<◌}
 use native.Mathlib.Omega.{arith}
 use mathlib.Core.Path.{◌≡◌, refl, sym, ap, ap₂, ◌∙◌, subst}
-use mathlib.Core.List.{List, [], ◌∷◌, ◌++◌, map, append_assoc, append-nil}
+use mathlib.Core.List.{List, [], ◌∷◌, ◌++◌}
 use lib.ListN.{length, take, get_or, set, length-map, length-set, length-take}
-use Rattle.model.specs.Lists.{All, part, pad}
+use Rattle.model.specs.Lists.{All, part}
 use Rattle.model.specs.declared.Layout.TheVariants.{Format1}
-use Rattle.model.specs.Layout.{header_size, total_word, largest_count, most, format_number, format_word, count_word, root_word, height_word, header, base_by, SizedBy, key_of, val_of, frame, node_words_by, node_words, cells_by, cells, arena_by, NodeVal, nth, Small, ArenaBy, Arena}
+use Rattle.model.specs.Layout.{header_size, total_word, largest_count, format_number, format_word, count_word, root_word, height_word, header, base_by, SizedBy, node_words_by, node_words, cells_by, cells, arena_by, NodeVal, nth, Small, ArenaBy, Arena}
 use Rattle.model.specs.Tree.{Item, Tree, Whole, top}
 use Rattle.model.specs.State.{State}
 use Rattle.model.specs.Words.{root_no, chain_blocks, nodes_in, header_of_by, header_of, words_of_by, words_of}

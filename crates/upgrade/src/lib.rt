@@ -1,4 +1,6 @@
 // The upgrade: the words of a format 1 arena into a slice of format 2, the same nodes at the same numbers, and the counts below each node.
+#![tactic(auto)]
+
 ghost use Rattle.std.specs.Prelude.{◌≡◌, [], ◌∷◌, ◌++◌, length, take, set};
 ghost use Rattle.model.specs.declared.Layout.TheVariants.{Format1};
 ghost use Rattle.model.specs.Layout.{Sized, SizedBy, header_size, node_size, format_number, format_word, total_word};

@@ -48,9 +48,6 @@ returns-then-before-n c = λ p. omega (arith, (told (goal.at.returns-then-before
 pub key_of-requires : goal.key_of-requires
 key_of-requires c = let o = owned (goal.at.key_of-requires c).Else-not-own_leaf in search (rules, sized_within)
 
-pub above-requires : goal.above-requires
-above-requires c = search (rules, sized_within)
-
 pub returns-then-not-above : goal.returns-then-not-above
 returns-then-not-above c = λ p. refuted c.above.result c.above.ensures c.if-not-above.true (rw c.key_of.ensures (told (goal.at.returns-then-not-above c).Start p).above)
 

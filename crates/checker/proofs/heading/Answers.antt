@@ -25,9 +25,6 @@ returns-then-a-base_of c = λ f. c.if-a-base_of.true (f.sized.long_is ∙ (ap (b
 pub returns-then-offset-ne-HEADER : goal.returns-then-offset-ne-HEADER
 returns-then-offset-ne-HEADER c = λ f. c.if-offset-ne-HEADER.true (c.offset.ensures ∙ f.offset)
 
-pub returns-then-height-gt-HIGHEST : goal.returns-then-height-gt-HIGHEST
-returns-then-height-gt-HIGHEST c = λ f. omega (arith, c.if-height-gt-HIGHEST.true, c.height.ensures, f.low)
-
 pub returns-then-free_nodes-count : goal.returns-then-free_nodes-count
 returns-then-free_nodes-count c = λ f. omega (arith, c.if-free_nodes-count.true, c.free_nodes.ensures, c.count-count.ensures, f.few_free)
 
@@ -38,6 +35,6 @@ returns c =
       format = sym c.format.ensures ∙ (c.if-format-number.false ∙ c.number.ensures);
       sized = record { some = omega (arith, c.if-count-eq0.false, e); few = omega (arith, c.if-count-gt-LARGEST.false, e); long_is = c.if-a-base_of.false ∙ (c.base_of.ensures ∙ ap (base_by c.args.f) e) };
       offset = sym c.offset.ensures ∙ c.if-offset-ne-HEADER.false;
-      low = omega (arith, c.if-height-gt-HIGHEST.false, c.height.ensures);
+      low = omega (arith, c.height.ensures);
       few_free = omega (arith, c.if-free_nodes-count.false, c.free_nodes.ensures, e);
     }

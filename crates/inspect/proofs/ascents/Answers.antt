@@ -19,9 +19,6 @@ key_of-low-requires c = search (rules, size_least, sized_within)
 pub loop-i-init : goal.loop-i-init
 loop-i-init c = (omega arith, c.key_of-low.ensures, sym (ups_none _))
 
-pub up-m-requires : goal.up-m-requires
-up-m-requires c = search (rules, size_least, sized_within)
-
 pub overflow_add-m : goal.overflow_add-m
 overflow_add-m c =
     let l = c in

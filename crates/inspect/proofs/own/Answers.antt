@@ -8,9 +8,6 @@ use Rattle.inspect.proofs.own.Goals as goal
 pub state_of-requires : goal.state_of-requires
 state_of-requires c = search (rules, size_least, sized_within)
 
-pub kind_of-requires : goal.kind_of-requires
-kind_of-requires c = search (rules, size_least, sized_within)
-
 pub len_of-n-requires : goal.len_of-n-requires
 len_of-n-requires c = search (rules, size_least, sized_within)
 

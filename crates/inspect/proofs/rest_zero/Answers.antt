@@ -43,9 +43,6 @@ bounds-a-b c = let l = size_least c.args.f in search rules
 pub bounds-a-b-in-loop-i : goal.bounds-a-b-in-loop-i
 bounds-a-b-in-loop-i c = let l = size_least c.args.f in search rules
 
-pub kept-all-requires : goal.kept-all-requires
-kept-all-requires c = search (rules, size_least, sized_within)
-
 pub loop-i-preserved : goal.loop-i-preserved
 loop-i-preserved c = ored-more _ _ _ _ _ _ (omega arith) c.kept-all.ensures c.loop-i.invariant
 

@@ -1,0 +1,28 @@
+-- `cursor::from_start` meets its contract.
+-- Assumes nothing.
+use mathlib.Core.Path.{sym, ◌∙◌}
+use Rattle.model.specs.Walk.{next_kv}
+use Rattle.model.specs.State.{State}
+use Rattle.model.specs.Promise.{Holds}
+use Rattle.model.proofs.Forward.{forward}
+use Rattle.navigate.specs.Places.{EdgeAt}
+use Rattle.walking.proofs.Spots.{seek_arrives}
+use Rattle.cursor.proofs.Moves.{start_edge, next-in}
+use Rattle.cursor.proofs.from_start.Goals as goal
+use Rattle.cursor.proofs.from_start.Goals.{After-lower_leaf_edge-edge}
+
+-- the leaf edge where the step begins
+abbrev from : (c : After-lower_leaf_edge-edge) {s : State} → Holds c.args.a.now s → EdgeAt s c.lower_leaf_edge-edge.result
+from c {s} o = start_edge o c.args.start _ (c.lower_leaf_edge-edge.ensures s o)
+
+pub next_kv-to-requires : goal.next_kv-to-requires
+next_kv-to-requires c = let o = forward _ c.requires in record { state = _; holds = o; there = from c o }
+
+pub arrive-requires : goal.arrive-requires
+arrive-requires c =
+    let o = forward _ c.requires in
+    let y = from (goal.at.arrive-requires c).After-lower_leaf_edge-edge o in
+    record { state = _; holds = o; there = record { spot = next_kv y.way; inside = next-in y; is = c.next_kv-to.ensures _ o y } }
+
+pub returns : goal.returns
+returns c = λ s o. let y = from (goal.at.returns c).After-lower_leaf_edge-edge o in c.arrive.ensures s o (next_kv y.way) (next-in y) (c.next_kv-to.ensures s o y) ∙ sym (seek_arrives o c.args.changes c.args.start)
