@@ -1,7 +1,7 @@
 -- `balance::bulk_steal_right` meets its contract: the stages, one after the other.
 -- Assumes nothing.
 use Prim.Native.Nat.{ℕ, suc, ◌+◌, ◌-◌}
-use mathlib.Core.Path.{◌≡◌, sym, ap, ◌∙◌}
+use mathlib.Core.Path.{◌≡◌, sym, ap, ◌∙◌, subst}
 use mathlib.Core.List.{List, ◌++◌}
 use native.Mathlib.Omega.{arith}
 use lib.ListN.{length, take, drop}
@@ -54,7 +54,7 @@ st₃ : (c : After-insert_fit) → let x = c.args in (h : List ℕ) (ns : List N
 st₃ c h ns q a =
     let k = counts (at-After-insert_fit c).After-edges_with-right_edges h ns q a in
     let s = st₂ (at-After-insert_fit c).After-replace_kv-down h ns q a in
-    rw (to_right₃ q _ _ (one_less q) (grown-is q) _ _ k.0 s.0) at (c.insert_fit.ensures h _ (right_ready₃ q _ _ (one_less q) (grown-is q) _ k.0) s.1)
+    subst (Arena c.insert_fit.new.a h) (to_right₃ q _ _ (one_less q) (grown-is q) _ _ k.0 s.0) (c.insert_fit.ensures h _ (right_ready₃ q _ _ (one_less q) (grown-is q) _ k.0) s.1)
 
 st₄ : (c : After-move_first_pairs) → let x = c.args in Leaves x.a.now c.move_first_pairs.new.a x.parent.0 x.at.0 x.left.0 x.right.0 x.right.0 x.left.0 x.count (λ ns. moved_pairs ns x.parent.0 x.at.0 x.left.0 x.right.0 (grown ns x.left.0 x.count))
 st₄ c h ns q a =
