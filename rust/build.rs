@@ -2,7 +2,7 @@
 //!
 //! 1. the file that `CUFFGARNET_LIB` names;
 //! 2. the repository that this crate stands in: tools/library makes it with `rt` there, unless it is up to date. Where nothing can be
-//!    written the sources are copied to the build's own folder, and it is made from these;
+//!    written, neither to target/ nor to the crates' folders out/, the sources are copied to the build's own folder, and it is made from these;
 //! 3. an installed one, as pkg-config names it (`make install` in the repository). A crate that was packaged or vendored has no
 //!    repository around it.
 //!
@@ -14,8 +14,12 @@ use std::io::{self, BufRead, BufReader, Write};
 use std::path::{Path, PathBuf};
 use std::process::{exit, Command, Stdio};
 
-/// What the library is made of, in the repository.
-const SOURCES: [&str; 3] = ["crates", "crates.txt", "tools/library"];
+/// What the library is made of, in the repository: this folder, and these files.
+const CRATES: &str = "crates";
+const FILES: [&str; 2] = ["crates.txt", "tools/library"];
+
+/// What of a crate the proof reads. The rest, out/ first, is not looked at, for `rt` writes there itself.
+const READ: [&str; 3] = ["src", "specs", "proofs"];
 
 /// The library, below the folder in which it is made.
 const MADE: &str = "target/staticlib/libcuffgarnet.a";
@@ -43,7 +47,7 @@ fn make(root: &Path) -> Result<PathBuf, String> {
         .ok_or_else(|| "tools/library could not make the static library".to_string())
 }
 
-/// Copies a file, or a folder with all that is in it.
+/// Copies a file, or a folder with all that is in it but what `rt` keeps in folders out/.
 fn copy(from: &Path, to: &Path) -> io::Result<()> {
     if !from.is_dir() {
         if let Some(folder) = to.parent() {
@@ -52,7 +56,10 @@ fn copy(from: &Path, to: &Path) -> io::Result<()> {
         return fs::write(to, fs::read(from)?).and_then(|()| fs::set_permissions(to, writable(from)?));
     }
     fs::create_dir_all(to)?;
-    fs::read_dir(from)?.try_for_each(|entry| entry.and_then(|e| copy(&e.path(), &to.join(e.file_name()))))
+    fs::read_dir(from)?.try_for_each(|entry| match entry? {
+        made if made.file_name() == "out" => Ok(()),
+        e => copy(&e.path(), &to.join(e.file_name())),
+    })
 }
 
 /// The permissions of a file, with the owner's to write.
@@ -61,19 +68,33 @@ fn writable(path: &Path) -> io::Result<fs::Permissions> {
     Ok(fs::Permissions::from_mode(fs::metadata(path)?.permissions().mode() | 0o200))
 }
 
+/// Whether a file can be made in a folder, which is made first.
+fn takes_files(folder: &Path) -> bool {
+    let tried = folder.join("tried");
+    fs::create_dir_all(folder).and_then(|()| File::create(&tried)).and_then(|_| fs::remove_file(&tried)).is_ok()
+}
+
 /// The repository's library, made there or, where nothing can be written and it is missing, from a copy of the sources.
 fn in_repository(root: &Path, out: &Path) -> Result<PathBuf, String> {
-    let log = root.join("target/library.log"); // which tools/library writes first of all
-    let writes =
-        fs::create_dir_all(root.join("target")).and_then(|()| OpenOptions::new().create(true).append(true).open(log));
-    if writes.is_ok() || root.join(MADE).exists() {
+    let writes = ["target", "crates/cuffgarnet/out"].iter().all(|folder| takes_files(&root.join(folder)));
+    if writes || root.join(MADE).exists() {
         return make(root);
     }
     let source = out.join("source");
-    for name in SOURCES {
+    for name in [CRATES].iter().chain(&FILES) {
         copy(&root.join(name), &source.join(name)).map_err(|e| format!("cannot copy {name}: {e}"))?;
     }
     make(&source)
+}
+
+/// What cargo is to look at: the folders of the crates that the proof reads, and the other sources.
+fn sources(root: &Path) -> io::Result<Vec<PathBuf>> {
+    let mut found: Vec<PathBuf> = FILES.iter().map(|name| root.join(name)).collect();
+    for entry in fs::read_dir(root.join(CRATES))? {
+        let folder = entry?.path();
+        found.extend(READ.iter().map(|part| folder.join(part)).filter(|part| part.exists()));
+    }
+    Ok(found)
 }
 
 /// The archive of an installation.
@@ -94,9 +115,9 @@ fn archive(root: &Path, out: &Path) -> Result<PathBuf, String> {
     if let Some(path) = std::env::var_os("CUFFGARNET_LIB") {
         return Ok(PathBuf::from(path));
     }
-    if SOURCES.iter().all(|name| root.join(name).exists()) {
-        for name in SOURCES {
-            println!("cargo:rerun-if-changed={}", root.join(name).display());
+    if [CRATES].iter().chain(&FILES).all(|name| root.join(name).exists()) {
+        for path in sources(root).map_err(|e| format!("{}: {e}", root.display()))? {
+            println!("cargo:rerun-if-changed={}", path.display());
         }
         return in_repository(root, out);
     }
