@@ -1,10 +1,10 @@
 -- Words laid one by one from bytes, and then repaired.
 -- Assumes nothing.
-use Prim.Native.Nat.{ℕ, suc, ◌+◌, ◌≤◌, ◌<◌}
+use Prim.Native.Nat.{ℕ, ◌+◌, ◌≤◌, ◌<◌}
 use native.Mathlib.Numerals.{add-one}
 use native.Mathlib.Omega.{arith}
 use mathlib.Core.Path.{◌≡◌, sym, ap, ◌∙◌}
-use mathlib.Core.List.{List, [], ◌∷◌, ◌++◌, map-append}
+use mathlib.Core.List.{List, [], ◌∷◌, map-append}
 use lib.ListN.{length, get_or, set, take}
 use lib.Seq.{take_all, take-suc, take-suc-set}
 use Rattle.model.specs.Insert.{Side}

@@ -12,7 +12,7 @@ use Rattle.model.specs.Mark.{Mark, unseen, seen, Covers}
 use Rattle.model.specs.Map.{Rising}
 use Rattle.model.specs.State.{State, list}
 use Rattle.model.specs.Words.{words_of}
-use Rattle.model.specs.Sound.{AllIn, Full}
+use Rattle.model.specs.Sound.{Full}
 use Rattle.model.specs.Insert.{Side, left, right}
 use Rattle.model.proofs.Lists.{once_each}
 use Rattle.model.proofs.Blocks.{numbers_in, times_blocks}

@@ -1,5 +1,7 @@
 // Lays arenas whose only short nodes lie on the right or the left border, repairs that border, and prints all words. docs/oracle/borders.py
 // says how the stored list and the arenas' bytes were made.
+#![tactic(auto)]
+
 ghost use Rattle.std.specs.Prelude.{◌≡◌, ◌≤◌, length};
 ghost use Rattle.model.specs.Insert.{left, right};
 ghost use Rattle.border.specs.Borders.{ShortOn, Repairs};
@@ -7,6 +9,7 @@ ghost use Rattle.borders.specs.Laying.{word_of, words_in};
 
 use border::{fix_left_border, fix_right_border};
 use node::NONE;
+use std::io;
 use telling::say_line;
 
 // The words of 16 nodes.
@@ -35,102 +38,110 @@ fn lay(a: &mut [u64], s: &[u8])
 }
 
 // Lays them, repairs the right border and prints all words.
-fn mend_right(a: &mut [u64], s: &[u8])
+fn mend_right(rt: &impl Print, a: &mut [u64], s: &[u8]) -> io::Result<()>
     requires { (length a.old ≡ length s.now) × ShortOn right (words_in s.now) }
     ensures { Repairs right (words_in s.now) a.new }
 {
     lay(a, s);
     fix_right_border(a);
-    say_line(a);
+    say_line(rt, a)
 }
 
 // The same of the left border.
-fn mend_left(a: &mut [u64], s: &[u8])
+fn mend_left(rt: &impl Print, a: &mut [u64], s: &[u8]) -> io::Result<()>
     requires { (length a.old ≡ length s.now) × ShortOn left (words_in s.now) }
     ensures { Repairs left (words_in s.now) a.new }
 {
     lay(a, s);
     fix_left_border(a);
-    say_line(a);
+    say_line(rt, a)
 }
 
 // The arena of these bytes, mended on the right.
-fn right(s: &[u8])
+fn right(rt: &impl Print, s: &[u8]) -> io::Result<()>
     requires { (length s.now ≤ 634) × ShortOn right (words_in s.now) }
 {
     let mut a = [0; LONG];
     let n = s.len();
-    mend_right(&mut a[..n], s);
+    mend_right(rt, &mut a[..n], s)
 }
 
 // On the left.
-fn left(s: &[u8])
+fn left(rt: &impl Print, s: &[u8]) -> io::Result<()>
     requires { (length s.now ≤ 634) × ShortOn left (words_in s.now) }
 {
     let mut a = [0; LONG];
     let n = s.len();
-    mend_left(&mut a[..n], s);
+    mend_left(rt, &mut a[..n], s)
 }
 
-fn leaves_right() {
+fn leaves_right(rt: &impl Print) -> io::Result<()> {
     // Leaves of 11 and 0 pairs: stocked to 6.
     right(
+        rt,
         b"\x02\x03\x0a\x02\x01\x0c\xff\0\x01\x0c\
         \x01\x0b\x02\0\x01\x02\x03\x04\x05\x06\x07\x08\x09\x0a\x0b\x65\x66\x67\x68\x69\x6a\x6b\x6c\x6d\x6e\x6f\0\0\0\0\0\0\0\0\0\0\0\0\x0b\
         \x01\0\x02\x01\0\0\0\0\0\0\0\0\0\0\0\0\0\0\0\0\0\0\0\0\0\0\0\0\0\0\0\0\0\0\0\0\0\0\0\
         \x02\x01\xff\0\x0c\0\0\0\0\0\0\0\0\0\0\x70\0\0\0\0\0\0\0\0\0\0\0\x01\0\0\0\0\0\0\0\0\0\0\x0c",
-    );
+    )?;
     // Of 5 and 0: merged, and the root, left empty, is dropped.
     right(
+        rt,
         b"\x02\x03\x0a\x02\x01\x06\xff\0\x01\x06\
         \x01\x05\x02\0\x01\x02\x03\x04\x05\0\0\0\0\0\0\x65\x66\x67\x68\x69\0\0\0\0\0\0\0\0\0\0\0\0\0\0\0\0\0\0\x05\
         \x01\0\x02\x01\0\0\0\0\0\0\0\0\0\0\0\0\0\0\0\0\0\0\0\0\0\0\0\0\0\0\0\0\0\0\0\0\0\0\0\
         \x02\x01\xff\0\x06\0\0\0\0\0\0\0\0\0\0\x6a\0\0\0\0\0\0\0\0\0\0\0\x01\0\0\0\0\0\0\0\0\0\0\x06",
-    );
+    )?;
     // Of 7 and 4, and a free node: 12 with the pair between them, so two are moved.
     right(
+        rt,
         b"\x02\x04\x0a\x02\x01\x0c\x03\x01\x01\x0c\
         \x01\x07\x02\0\x01\x02\x03\x04\x05\x06\x07\0\0\0\0\x65\x66\x67\x68\x69\x6a\x6b\0\0\0\0\0\0\0\0\0\0\0\0\0\0\0\0\x07\
         \x01\x04\x02\x01\x09\x0a\x0b\x0c\0\0\0\0\0\0\0\x6d\x6e\x6f\x70\0\0\0\0\0\0\0\0\0\0\0\0\0\0\0\0\0\0\0\x04\
         \x02\x01\xff\0\x08\0\0\0\0\0\0\0\0\0\0\x6c\0\0\0\0\0\0\0\0\0\0\0\x01\0\0\0\0\0\0\0\0\0\0\x0c\
         \0\0\xff\0\0\0\0\0\0\0\0\0\0\0\0\0\0\0\0\0\0\0\0\0\0\0\0\0\0\0\0\0\0\0\0\0\0\0\0",
-    );
+    )?;
     // Of 6 and 4: 11, merged.
     right(
+        rt,
         b"\x02\x03\x0a\x02\x01\x0b\xff\0\x01\x0b\
         \x01\x06\x02\0\x01\x02\x03\x04\x05\x06\0\0\0\0\0\x65\x66\x67\x68\x69\x6a\0\0\0\0\0\0\0\0\0\0\0\0\0\0\0\0\0\x06\
         \x01\x04\x02\x01\x08\x09\x0a\x0b\0\0\0\0\0\0\0\x6c\x6d\x6e\x6f\0\0\0\0\0\0\0\0\0\0\0\0\0\0\0\0\0\0\0\x04\
         \x02\x01\xff\0\x07\0\0\0\0\0\0\0\0\0\0\x6b\0\0\0\0\0\0\0\0\0\0\0\x01\0\0\0\0\0\0\0\0\0\0\x0b",
-    );
+    )
 }
 
-fn tops_right() {
+fn tops_right(rt: &impl Print) -> io::Result<()> {
     // A root without pairs over a leaf.
     right(
+        rt,
         b"\x02\x02\x0a\x01\x01\x07\xff\0\x01\x07\
         \x01\x07\x01\0\x01\x02\x03\x04\x05\x06\x07\0\0\0\0\x65\x66\x67\x68\x69\x6a\x6b\0\0\0\0\0\0\0\0\0\0\0\0\0\0\0\0\x07\
         \x02\0\xff\0\0\0\0\0\0\0\0\0\0\0\0\0\0\0\0\0\0\0\0\0\0\0\0\0\0\0\0\0\0\0\0\0\0\0\x07",
-    );
+    )?;
     // Two of them.
     right(
+        rt,
         b"\x02\x03\x0a\x02\x02\x03\xff\0\x01\x03\
         \x01\x03\x01\0\x01\x02\x03\0\0\0\0\0\0\0\0\x65\x66\x67\0\0\0\0\0\0\0\0\0\0\0\0\0\0\0\0\0\0\0\0\x03\
         \x02\0\x02\0\0\0\0\0\0\0\0\0\0\0\0\0\0\0\0\0\0\0\0\0\0\0\0\0\0\0\0\0\0\0\0\0\0\0\x03\
         \x02\0\xff\0\0\0\0\0\0\0\0\0\0\0\0\0\0\0\0\0\0\0\0\0\0\0\x01\0\0\0\0\0\0\0\0\0\0\0\x03",
-    );
+    )?;
     // One over leaves of 9 and 0: dropped, and so is the root below it after the merge.
     right(
+        rt,
         b"\x02\x04\x0a\x03\x02\x0a\xff\0\x01\x0a\
         \x01\x09\x02\0\x01\x02\x03\x04\x05\x06\x07\x08\x09\0\0\x65\x66\x67\x68\x69\x6a\x6b\x6c\x6d\0\0\0\0\0\0\0\0\0\0\0\0\0\0\x09\
         \x01\0\x02\x01\0\0\0\0\0\0\0\0\0\0\0\0\0\0\0\0\0\0\0\0\0\0\0\0\0\0\0\0\0\0\0\0\0\0\0\
         \x02\x01\x03\0\x0a\0\0\0\0\0\0\0\0\0\0\x6e\0\0\0\0\0\0\0\0\0\0\0\x01\0\0\0\0\0\0\0\0\0\0\x0a\
         \x02\0\xff\0\0\0\0\0\0\0\0\0\0\0\0\0\0\0\0\0\0\0\0\0\0\0\x02\0\0\0\0\0\0\0\0\0\0\0\x0a",
-    );
+    )
 }
 
-fn inner_right() {
+fn inner_right(rt: &impl Print) -> io::Result<()> {
     // An empty leaf below an empty node: merged above, stocked below from a leaf of 11, and the root is dropped.
     right(
+        rt,
         b"\x02\x0a\x0a\x09\x02\x2a\xff\0\x01\x2a\
         \x01\x05\x06\0\x01\x02\x03\x04\x05\0\0\0\0\0\0\x65\x66\x67\x68\x69\0\0\0\0\0\0\0\0\0\0\0\0\0\0\0\0\0\0\x05\
         \x01\x05\x06\x01\x07\x08\x09\x0a\x0b\0\0\0\0\0\0\x6b\x6c\x6d\x6e\x6f\0\0\0\0\0\0\0\0\0\0\0\0\0\0\0\0\0\0\x05\
@@ -142,9 +153,10 @@ fn inner_right() {
         \x01\0\x08\0\0\0\0\0\0\0\0\0\0\0\0\0\0\0\0\0\0\0\0\0\0\0\0\0\0\0\0\0\0\0\0\0\0\0\0\
         \x02\0\x09\x01\0\0\0\0\0\0\0\0\0\0\0\0\0\0\0\0\0\0\0\0\0\0\x07\0\0\0\0\0\0\0\0\0\0\0\0\
         \x02\x01\xff\0\x2a\0\0\0\0\0\0\0\0\0\0\x8e\0\0\0\0\0\0\0\0\0\0\x06\x08\0\0\0\0\0\0\0\0\0\0\x2a",
-    );
+    )?;
     // The upper node is stocked with six pairs and their edges, the leaf merged.
     right(
+        rt,
         b"\x02\x10\x0a\x0f\x02\x48\xff\0\x01\x48\
         \x01\x05\x0c\0\x01\x02\x03\x04\x05\0\0\0\0\0\0\x65\x66\x67\x68\x69\0\0\0\0\0\0\0\0\0\0\0\0\0\0\0\0\0\0\x05\
         \x01\x05\x0c\x01\x07\x08\x09\x0a\x0b\0\0\0\0\0\0\x6b\x6c\x6d\x6e\x6f\0\0\0\0\0\0\0\0\0\0\0\0\0\0\0\0\0\0\x05\
@@ -162,9 +174,10 @@ fn inner_right() {
         \x01\0\x0e\0\0\0\0\0\0\0\0\0\0\0\0\0\0\0\0\0\0\0\0\0\0\0\0\0\0\0\0\0\0\0\0\0\0\0\0\
         \x02\0\x0f\x01\0\0\0\0\0\0\0\0\0\0\0\0\0\0\0\0\0\0\0\0\0\0\x0d\0\0\0\0\0\0\0\0\0\0\0\0\
         \x02\x01\xff\0\x48\0\0\0\0\0\0\0\0\0\0\xac\0\0\0\0\0\0\0\0\0\0\x0c\x0e\0\0\0\0\0\0\0\0\0\0\x48",
-    );
+    )?;
     // The upper one with three, the leaf with two.
     right(
+        rt,
         b"\x02\x10\x0a\x0f\x02\x51\xff\0\x01\x51\
         \x01\x05\x09\0\x01\x02\x03\x04\x05\0\0\0\0\0\0\x65\x66\x67\x68\x69\0\0\0\0\0\0\0\0\0\0\0\0\0\0\0\0\0\0\x05\
         \x01\x05\x09\x01\x07\x08\x09\x0a\x0b\0\0\0\0\0\0\x6b\x6c\x6d\x6e\x6f\0\0\0\0\0\0\0\0\0\0\0\0\0\0\0\0\0\0\x05\
@@ -182,83 +195,93 @@ fn inner_right() {
         \x01\x04\x0e\x03\x4e\x4f\x50\x51\0\0\0\0\0\0\0\xb2\xb3\xb4\xb5\0\0\0\0\0\0\0\0\0\0\0\0\0\0\0\0\0\0\0\x04\
         \x02\x03\x0f\x01\x3c\x43\x4d\0\0\0\0\0\0\0\0\xa0\xa7\xb1\0\0\0\0\0\0\0\0\x0a\x0b\x0c\x0d\0\0\0\0\0\0\0\0\x1b\
         \x02\x01\xff\0\x36\0\0\0\0\0\0\0\0\0\0\x9a\0\0\0\0\0\0\0\0\0\0\x09\x0e\0\0\0\0\0\0\0\0\0\0\x51",
-    );
+    )
 }
 
-fn nothing_right() {
+fn nothing_right(rt: &impl Print) -> io::Result<()> {
     // Leaves of 6 and 6: nothing to do.
     right(
+        rt,
         b"\x02\x03\x0a\x02\x01\x0d\xff\0\x01\x0d\
         \x01\x06\x02\0\x01\x02\x03\x04\x05\x06\0\0\0\0\0\x65\x66\x67\x68\x69\x6a\0\0\0\0\0\0\0\0\0\0\0\0\0\0\0\0\0\x06\
         \x01\x06\x02\x01\x08\x09\x0a\x0b\x0c\x0d\0\0\0\0\0\x6c\x6d\x6e\x6f\x70\x71\0\0\0\0\0\0\0\0\0\0\0\0\0\0\0\0\0\x06\
         \x02\x01\xff\0\x07\0\0\0\0\0\0\0\0\0\0\x6b\0\0\0\0\0\0\0\0\0\0\0\x01\0\0\0\0\0\0\0\0\0\0\x0d",
-    );
+    )?;
     // A leaf alone.
     right(
+        rt,
         b"\x02\x01\x0a\0\0\x03\xff\0\x01\x03\
         \x01\x03\xff\0\x01\x02\x03\0\0\0\0\0\0\0\0\x65\x66\x67\0\0\0\0\0\0\0\0\0\0\0\0\0\0\0\0\0\0\0\0\x03",
-    );
+    )
 }
 
-fn leaves_left() {
+fn leaves_left(rt: &impl Print) -> io::Result<()> {
     // Leaves of 0 and 11 pairs: stocked to 6.
     left(
+        rt,
         b"\x02\x03\x0a\x02\x01\x0c\xff\0\x01\x0c\
         \x01\0\x02\0\0\0\0\0\0\0\0\0\0\0\0\0\0\0\0\0\0\0\0\0\0\0\0\0\0\0\0\0\0\0\0\0\0\0\0\
         \x01\x0b\x02\x01\x02\x03\x04\x05\x06\x07\x08\x09\x0a\x0b\x0c\x66\x67\x68\x69\x6a\x6b\x6c\x6d\x6e\x6f\x70\0\0\0\0\0\0\0\0\0\0\0\0\x0b\
         \x02\x01\xff\0\x01\0\0\0\0\0\0\0\0\0\0\x65\0\0\0\0\0\0\0\0\0\0\0\x01\0\0\0\0\0\0\0\0\0\0\x0c",
-    );
+    )?;
     // Of 0 and 5: merged, and the root, left empty, is dropped.
     left(
+        rt,
         b"\x02\x03\x0a\x02\x01\x06\xff\0\x01\x06\
         \x01\0\x02\0\0\0\0\0\0\0\0\0\0\0\0\0\0\0\0\0\0\0\0\0\0\0\0\0\0\0\0\0\0\0\0\0\0\0\0\
         \x01\x05\x02\x01\x02\x03\x04\x05\x06\0\0\0\0\0\0\x66\x67\x68\x69\x6a\0\0\0\0\0\0\0\0\0\0\0\0\0\0\0\0\0\0\x05\
         \x02\x01\xff\0\x01\0\0\0\0\0\0\0\0\0\0\x65\0\0\0\0\0\0\0\0\0\0\0\x01\0\0\0\0\0\0\0\0\0\0\x06",
-    );
+    )?;
     // Of 4 and 7, and a free node: 12 with the pair between them, so two are moved.
     left(
+        rt,
         b"\x02\x04\x0a\x02\x01\x0c\x03\x01\x01\x0c\
         \x01\x04\x02\0\x01\x02\x03\x04\0\0\0\0\0\0\0\x65\x66\x67\x68\0\0\0\0\0\0\0\0\0\0\0\0\0\0\0\0\0\0\0\x04\
         \x01\x07\x02\x01\x06\x07\x08\x09\x0a\x0b\x0c\0\0\0\0\x6a\x6b\x6c\x6d\x6e\x6f\x70\0\0\0\0\0\0\0\0\0\0\0\0\0\0\0\0\x07\
         \x02\x01\xff\0\x05\0\0\0\0\0\0\0\0\0\0\x69\0\0\0\0\0\0\0\0\0\0\0\x01\0\0\0\0\0\0\0\0\0\0\x0c\
         \0\0\xff\0\0\0\0\0\0\0\0\0\0\0\0\0\0\0\0\0\0\0\0\0\0\0\0\0\0\0\0\0\0\0\0\0\0\0\0",
-    );
+    )?;
     // Of 4 and 6: 11, merged.
     left(
+        rt,
         b"\x02\x03\x0a\x02\x01\x0b\xff\0\x01\x0b\
         \x01\x04\x02\0\x01\x02\x03\x04\0\0\0\0\0\0\0\x65\x66\x67\x68\0\0\0\0\0\0\0\0\0\0\0\0\0\0\0\0\0\0\0\x04\
         \x01\x06\x02\x01\x06\x07\x08\x09\x0a\x0b\0\0\0\0\0\x6a\x6b\x6c\x6d\x6e\x6f\0\0\0\0\0\0\0\0\0\0\0\0\0\0\0\0\0\x06\
         \x02\x01\xff\0\x05\0\0\0\0\0\0\0\0\0\0\x69\0\0\0\0\0\0\0\0\0\0\0\x01\0\0\0\0\0\0\0\0\0\0\x0b",
-    );
+    )
 }
 
-fn tops_left() {
+fn tops_left(rt: &impl Print) -> io::Result<()> {
     // A root without pairs over a leaf.
     left(
+        rt,
         b"\x02\x02\x0a\x01\x01\x07\xff\0\x01\x07\
         \x01\x07\x01\0\x01\x02\x03\x04\x05\x06\x07\0\0\0\0\x65\x66\x67\x68\x69\x6a\x6b\0\0\0\0\0\0\0\0\0\0\0\0\0\0\0\0\x07\
         \x02\0\xff\0\0\0\0\0\0\0\0\0\0\0\0\0\0\0\0\0\0\0\0\0\0\0\0\0\0\0\0\0\0\0\0\0\0\0\x07",
-    );
+    )?;
     // Two of them.
     left(
+        rt,
         b"\x02\x03\x0a\x02\x02\x03\xff\0\x01\x03\
         \x01\x03\x01\0\x01\x02\x03\0\0\0\0\0\0\0\0\x65\x66\x67\0\0\0\0\0\0\0\0\0\0\0\0\0\0\0\0\0\0\0\0\x03\
         \x02\0\x02\0\0\0\0\0\0\0\0\0\0\0\0\0\0\0\0\0\0\0\0\0\0\0\0\0\0\0\0\0\0\0\0\0\0\0\x03\
         \x02\0\xff\0\0\0\0\0\0\0\0\0\0\0\0\0\0\0\0\0\0\0\0\0\0\0\x01\0\0\0\0\0\0\0\0\0\0\0\x03",
-    );
+    )?;
     // One over leaves of 0 and 9: dropped, and so is the root below it after the merge.
     left(
+        rt,
         b"\x02\x04\x0a\x03\x02\x0a\xff\0\x01\x0a\
         \x01\0\x02\0\0\0\0\0\0\0\0\0\0\0\0\0\0\0\0\0\0\0\0\0\0\0\0\0\0\0\0\0\0\0\0\0\0\0\0\
         \x01\x09\x02\x01\x02\x03\x04\x05\x06\x07\x08\x09\x0a\0\0\x66\x67\x68\x69\x6a\x6b\x6c\x6d\x6e\0\0\0\0\0\0\0\0\0\0\0\0\0\0\x09\
         \x02\x01\x03\0\x01\0\0\0\0\0\0\0\0\0\0\x65\0\0\0\0\0\0\0\0\0\0\0\x01\0\0\0\0\0\0\0\0\0\0\x0a\
         \x02\0\xff\0\0\0\0\0\0\0\0\0\0\0\0\0\0\0\0\0\0\0\0\0\0\0\x02\0\0\0\0\0\0\0\0\0\0\0\x0a",
-    );
+    )
 }
 
-fn inner_left() {
+fn inner_left(rt: &impl Print) -> io::Result<()> {
     // An empty leaf below an empty node: merged above, stocked below from a leaf of 11, and the root is dropped.
     left(
+        rt,
         b"\x02\x0a\x0a\x09\x02\x2a\xff\0\x01\x2a\
         \x01\0\x01\0\0\0\0\0\0\0\0\0\0\0\0\0\0\0\0\0\0\0\0\0\0\0\0\0\0\0\0\0\0\0\0\0\0\0\0\
         \x02\0\x09\0\0\0\0\0\0\0\0\0\0\0\0\0\0\0\0\0\0\0\0\0\0\0\0\0\0\0\0\0\0\0\0\0\0\0\0\
@@ -270,9 +293,10 @@ fn inner_left() {
         \x01\x05\x08\x05\x26\x27\x28\x29\x2a\0\0\0\0\0\0\x8a\x8b\x8c\x8d\x8e\0\0\0\0\0\0\0\0\0\0\0\0\0\0\0\0\0\0\x05\
         \x02\x05\x09\x01\x0d\x13\x19\x1f\x25\0\0\0\0\0\0\x71\x77\x7d\x83\x89\0\0\0\0\0\0\x02\x03\x04\x05\x06\x07\0\0\0\0\0\0\x29\
         \x02\x01\xff\0\x01\0\0\0\0\0\0\0\0\0\0\x65\0\0\0\0\0\0\0\0\0\0\x01\x08\0\0\0\0\0\0\0\0\0\0\x2a",
-    );
+    )?;
     // The upper node is stocked with six pairs and their edges, the leaf merged.
     left(
+        rt,
         b"\x02\x10\x0a\x0f\x02\x48\xff\0\x01\x48\
         \x01\0\x01\0\0\0\0\0\0\0\0\0\0\0\0\0\0\0\0\0\0\0\0\0\0\0\0\0\0\0\0\0\0\0\0\0\0\0\0\
         \x02\0\x0f\0\0\0\0\0\0\0\0\0\0\0\0\0\0\0\0\0\0\0\0\0\0\0\0\0\0\0\0\0\0\0\0\0\0\0\0\
@@ -290,9 +314,10 @@ fn inner_left() {
         \x01\x05\x0e\x0b\x44\x45\x46\x47\x48\0\0\0\0\0\0\xa8\xa9\xaa\xab\xac\0\0\0\0\0\0\0\0\0\0\0\0\0\0\0\0\0\0\x05\
         \x02\x0b\x0f\x01\x07\x0d\x13\x19\x1f\x25\x2b\x31\x37\x3d\x43\x6b\x71\x77\x7d\x83\x89\x8f\x95\x9b\xa1\xa7\x02\x03\x04\x05\x06\x07\x08\x09\x0a\x0b\x0c\x0d\x47\
         \x02\x01\xff\0\x01\0\0\0\0\0\0\0\0\0\0\x65\0\0\0\0\0\0\0\0\0\0\x01\x0e\0\0\0\0\0\0\0\0\0\0\x48",
-    );
+    )?;
     // The upper one with three, the leaf with two.
     left(
+        rt,
         b"\x02\x10\x0a\x0f\x02\x51\xff\0\x01\x51\
         \x01\x04\x04\0\x01\x02\x03\x04\0\0\0\0\0\0\0\x65\x66\x67\x68\0\0\0\0\0\0\0\0\0\0\0\0\0\0\0\0\0\0\0\x04\
         \x01\x09\x04\x01\x06\x07\x08\x09\x0a\x0b\x0c\x0d\x0e\0\0\x6a\x6b\x6c\x6d\x6e\x6f\x70\x71\x72\0\0\0\0\0\0\0\0\0\0\0\0\0\0\x09\
@@ -310,31 +335,33 @@ fn inner_left() {
         \x01\x05\x0e\x08\x4d\x4e\x4f\x50\x51\0\0\0\0\0\0\xb1\xb2\xb3\xb4\xb5\0\0\0\0\0\0\0\0\0\0\0\0\0\0\0\0\0\0\x05\
         \x02\x08\x0f\x01\x22\x28\x2e\x34\x3a\x40\x46\x4c\0\0\0\x86\x8c\x92\x98\x9e\xa4\xaa\xb0\0\0\0\x05\x06\x07\x08\x09\x0a\x0b\x0c\x0d\0\0\0\x35\
         \x02\x01\xff\0\x1c\0\0\0\0\0\0\0\0\0\0\x80\0\0\0\0\0\0\0\0\0\0\x04\x0e\0\0\0\0\0\0\0\0\0\0\x51",
-    );
+    )
 }
 
-fn nothing_left() {
+fn nothing_left(rt: &impl Print) -> io::Result<()> {
     // Leaves of 6 and 6: nothing to do.
     left(
+        rt,
         b"\x02\x03\x0a\x02\x01\x0d\xff\0\x01\x0d\
         \x01\x06\x02\0\x01\x02\x03\x04\x05\x06\0\0\0\0\0\x65\x66\x67\x68\x69\x6a\0\0\0\0\0\0\0\0\0\0\0\0\0\0\0\0\0\x06\
         \x01\x06\x02\x01\x08\x09\x0a\x0b\x0c\x0d\0\0\0\0\0\x6c\x6d\x6e\x6f\x70\x71\0\0\0\0\0\0\0\0\0\0\0\0\0\0\0\0\0\x06\
         \x02\x01\xff\0\x07\0\0\0\0\0\0\0\0\0\0\x6b\0\0\0\0\0\0\0\0\0\0\0\x01\0\0\0\0\0\0\0\0\0\0\x0d",
-    );
+    )?;
     // A leaf alone.
     left(
+        rt,
         b"\x02\x01\x0a\0\0\x03\xff\0\x01\x03\
         \x01\x03\xff\0\x01\x02\x03\0\0\0\0\0\0\0\0\x65\x66\x67\0\0\0\0\0\0\0\0\0\0\0\0\0\0\0\0\0\0\0\0\x03",
-    );
+    )
 }
 
-fn main() {
-    leaves_right();
-    tops_right();
-    inner_right();
-    nothing_right();
-    leaves_left();
-    tops_left();
-    inner_left();
-    nothing_left();
+fn main(rt: HostRuntime) -> io::Result<()> {
+    leaves_right(&rt)?;
+    tops_right(&rt)?;
+    inner_right(&rt)?;
+    nothing_right(&rt)?;
+    leaves_left(&rt)?;
+    tops_left(&rt)?;
+    inner_left(&rt)?;
+    nothing_left(&rt)
 }

@@ -4,19 +4,19 @@ use Prim.Native.Nat.{ℕ, ◌+◌, ◌-◌, ◌≤◌, ◌<◌}
 use native.Mathlib.Omega.{arith}
 use mathlib.Core.Path.{◌≡◌, refl, sym, ap, ◌∙◌, subst}
 use mathlib.Core.Logic.{inl, inr}
-use mathlib.Core.List.{List, ◌++◌}
+use mathlib.Core.List.{List}
 use lib.Dec.{lit<}
 use lib.ListN.{length, get_or, length-append}
 use Rattle.model.specs.declared.Answer.TheVariants.{Done, NoRoom, BadArena, BadSize}
 use Rattle.model.specs.Layout.{Sized, pairs_word}
 use Rattle.model.specs.Tree.{before, after}
-use Rattle.model.specs.State.{State, list}
+use Rattle.model.specs.State.{State}
 use Rattle.model.specs.Load.{loaded_with}
 use Rattle.model.specs.Room.{nodes_for}
 use Rattle.model.specs.Parting.{path_of, cut_off, part_off}
 use Rattle.model.specs.Words.{words_of}
 use Rattle.model.specs.WellFormed.{WellFormed}
-use Rattle.model.specs.Promise.{Holds, AnyCount, Exceeds, InState, Cut}
+use Rattle.model.specs.Promise.{Holds, AnyCount, Exceeds, Cut}
 use Rattle.model.proofs.Backward.{backward}
 use Rattle.model.proofs.Header.{header_is}
 use Rattle.model.proofs.Unique.{one_count, in-state}

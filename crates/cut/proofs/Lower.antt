@@ -1,10 +1,10 @@
 -- What stays is short on the right border only, and repaired it is the model's.
 -- Assumes nothing.
 use Prim.Native.Nat.{ℕ}
-use mathlib.Core.Path.{◌≡◌, refl, sym, ap, ◌∙◌, subst}
+use mathlib.Core.Path.{◌≡◌, sym, ap, ◌∙◌, subst}
 use mathlib.Core.List.{List, ◌++◌}
 use Rattle.model.specs.Lists.{All}
-use Rattle.model.specs.Tree.{Pair, flat_of, before, after}
+use Rattle.model.specs.Tree.{Pair, after}
 use Rattle.model.specs.Insert.{right}
 use Rattle.model.specs.Mark.{Covers}
 use Rattle.model.specs.Map.{Rising}

@@ -1,10 +1,9 @@
 -- A turn of the walk that pushes the pairs of the upper part; where it begins, and how the load ends.
 -- Assumes nothing.
-use Prim.Native.Nat.{ℕ, zero, suc, ◌+◌, ◌-◌, ◌≤◌, ◌<◌}
+use Prim.Native.Nat.{ℕ, ◌-◌, ◌≤◌}
 use native.Mathlib.Omega.{arith}
 use mathlib.Core.Path.{◌≡◌, refl, sym, ap, ◌∙◌, subst}
 use mathlib.Core.List.{List, [], ◌∷◌, ◌++◌, append-nil, append_assoc}
-use lib.Dec.{lit<}
 use lib.ListN.{length, get_or, length-append}
 use Rattle.model.specs.Layout.{seen_word, mark_word, header_size}
 use Rattle.model.specs.Tree.{Pair, after}
@@ -21,7 +20,6 @@ use Rattle.node.specs.declared.Kv.{Kv}
 use Rattle.node.specs.Reading.{pair_of}
 use Rattle.search.specs.declared.Handle.{Handle}
 use Rattle.search.specs.Results.{leaf_edge}
-use Rattle.navigate.specs.Places.{EdgeAt}
 use Rattle.standing.specs.Heads.{Rest, rest_of}
 use Rattle.loading.proofs.Loads.{load_nodes}
 use Rattle.loading.proofs.Least.{nodes_more}

@@ -1,6 +1,8 @@
 // Runs the checker on arenas damaged in one word at a time, for every word of a formatted arena and of a tree of three nodes with two
 // free ones, and on three arenas that are wrong in one count alone; and formatting at every length. It prints each answer's number:
 // docs/oracle/damage.py says how the stored list was made.
+#![tactic(auto)]
+
 ghost use Rattle.std.specs.Prelude.{◌≡◌, ◌+◌, ◌<◌, ◌≤◌, length, slice_index};
 ghost use Rattle.model.specs.Answer.{numbers_of};
 ghost use Rattle.damage.specs.Kinds.{digit_of, word_of, wrongs};
@@ -10,6 +12,7 @@ use format::format;
 use model::Answer;
 use node::NONE;
 use slices::clear;
+use std::io;
 use std::num::wrapping_add_u64;
 use telling::say_line;
 
@@ -44,7 +47,7 @@ fn wrong(v: u64, j: usize) -> u64
 }
 
 // The answers for the arena with its word i damaged in each way; the word is then what it was.
-fn damage(a: &mut [u64], i: usize)
+fn damage(rt: &impl Print, a: &mut [u64], i: usize) -> io::Result<()>
     requires { i < length a.old }
 {
     let v = a[i];
@@ -56,7 +59,7 @@ fn damage(a: &mut [u64], i: usize)
         j += 1;
     }
     a[i] = v;
-    io::write_all(1, &line);
+    rt.write_all(&line)
 }
 
 // The word that a byte of a table stands for: 255 for NONE.
@@ -112,35 +115,37 @@ fn leaves(a: &mut [u64])
 }
 
 // Formats words that are no arena at every length up to theirs, each time followed by a check: two answers a line.
-fn sizes(a: &mut [u64])
+fn sizes(rt: &impl Print, a: &mut [u64]) -> io::Result<()>
     requires { length a.old ≡ 205 }
 {
     let mut k = 0;
     while k <= LONG {
         let f = digit(format(&mut a[0..k]));
         let c = digit(check(&a[0..k]));
-        io::write_all(1, &[f, c, b'\n']);
+        rt.write_all(&[f, c, b'\n'])?;
         k += 1;
     }
+    Ok(())
 }
 
 // The answers for each word.
-fn every_word(a: &mut [u64]) {
+fn every_word(rt: &impl Print, a: &mut [u64]) -> io::Result<()> {
     let mut i = 0;
     while i < a.len() {
-        damage(a, i);
+        damage(rt, a, i)?;
         i += 1;
     }
+    Ok(())
 }
 
 // The answer for the arena as it is.
-fn say(a: &[u64]) {
+fn say(rt: &impl Print, a: &[u64]) -> io::Result<()> {
     let c = digit(check(a));
-    io::write_all(1, &[c, b'\n']);
+    rt.write_all(&[c, b'\n'])
 }
 
 // A leaf of 4 pairs, all else true of it.
-fn short_leaf(a: &mut [u64])
+fn short_leaf(rt: &impl Print, a: &mut [u64]) -> io::Result<()>
     requires { length a.old ≡ 205 }
 {
     lay(a, 5, &[11]);
@@ -148,20 +153,20 @@ fn short_leaf(a: &mut [u64])
     lay(a, 174, &[0]);
     lay(a, 185, &[0]);
     lay(a, 204, &[4]);
-    say(a);
+    say(rt, a)
 }
 
 // Node 2 neither reached nor in the chain.
-fn lost_node(a: &mut [u64])
+fn lost_node(rt: &impl Print, a: &mut [u64]) -> io::Result<()>
     requires { length a.old ≡ 205 }
 {
     lay(a, 6, &[1, 1]);
     lay(a, 51, &[255]);
-    say(a);
+    say(rt, a)
 }
 
 // The internal root empty, over node 0 alone; node 4 is free.
-fn empty_root(a: &mut [u64])
+fn empty_root(rt: &impl Print, a: &mut [u64]) -> io::Result<()>
     requires { length a.old ≡ 205 }
 {
     clear(&mut a[127..205]);
@@ -170,26 +175,26 @@ fn empty_root(a: &mut [u64])
     lay(a, 127, &[2, 0, 255]);
     lay(a, 165, &[6]);
     lay(a, 168, &[255]);
-    say(a);
+    say(rt, a)
 }
 
 // The free nodes 2 and 1, a falling chain.
-fn falling(a: &mut [u64])
+fn falling(rt: &impl Print, a: &mut [u64]) -> io::Result<()>
     requires { length a.old ≡ 205 }
 {
     lay(a, 6, &[2]);
     lay(a, 51, &[255]);
     lay(a, 90, &[1]);
-    say(a);
+    say(rt, a)
 }
 
 // A count one too many and one too few, the root's true.
-fn shifted_counts(a: &mut [u64])
+fn shifted_counts(rt: &impl Print, a: &mut [u64]) -> io::Result<()>
     requires { length a.old ≡ 205 }
 {
     lay(a, 48, &[7]);
     lay(a, 204, &[4]);
-    say(a);
+    say(rt, a)
 }
 
 // The tree of three nodes.
@@ -202,35 +207,35 @@ fn tree(a: &mut [u64])
 }
 
 // The two formatted arenas.
-fn formats() {
+fn formats(rt: &impl Print) -> io::Result<()> {
     let mut two = [7; 88];
     format(&mut two);
-    say_line(&two);
+    say_line(rt, &two)?;
     let mut one = [7; 49];
     format(&mut one);
-    every_word(&mut one);
+    every_word(rt, &mut one)
 }
 
 // The three arenas that are wrong in one count, the falling chain, and two nodes' counts.
-fn counts(a: &mut [u64])
+fn counts(rt: &impl Print, a: &mut [u64]) -> io::Result<()>
     requires { length a.old ≡ 205 }
 {
-    short_leaf(a);
+    short_leaf(rt, a)?;
     tree(a);
-    lost_node(a);
+    lost_node(rt, a)?;
     tree(a);
-    empty_root(a);
+    empty_root(rt, a)?;
     tree(a);
-    falling(a);
+    falling(rt, a)?;
     tree(a);
-    shifted_counts(a);
+    shifted_counts(rt, a)
 }
 
-fn main() {
-    formats();
+fn main(rt: HostRuntime) -> io::Result<()> {
+    formats(&rt)?;
     let mut a = [7; 205];
-    sizes(&mut a);
+    sizes(&rt, &mut a)?;
     tree(&mut a);
-    every_word(&mut a);
-    counts(&mut a);
+    every_word(&rt, &mut a)?;
+    counts(&rt, &mut a)
 }

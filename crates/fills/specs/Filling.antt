@@ -19,4 +19,4 @@ prime = 10007
 pub data Fills (step : ℕ) (w' : List ℕ) (r : ℕ) : ℕ → ℕ → List ℕ → Type 0 where
   all_tried : {key i : ℕ} {w : List ℕ} → tries ≤ i → w' ≡ w → r ≡ i → Fills step w' r key i w
   no_room : {key i : ℕ} {w : List ℕ} (x : Answer) → i < tries → Call (put key i) w w' x → (numbers_of x).number ≡ (numbers_of NoRoom).number → r ≡ i → Fills step w' r key i w
-  came-in : {key i : ℕ} {w : List ℕ} (x : Answer) (u : List ℕ) (next : ℕ) → i < tries → Call (put key i) w u x → ((numbers_of x).number ≡ (numbers_of NoRoom).number → ⊥) → next ≡ around_of key step prime → Fills step w' r next (i + 1) u → Fills step w' r key i w
+  came_in : {key i : ℕ} {w : List ℕ} (x : Answer) (u : List ℕ) (next : ℕ) → i < tries → Call (put key i) w u x → ((numbers_of x).number ≡ (numbers_of NoRoom).number → ⊥) → next ≡ around_of key step prime → Fills step w' r next (i + 1) u → Fills step w' r key i w

@@ -1,5 +1,7 @@
 // Puts rising, falling and shuffled keys into 64 nodes until one is refused, then prints how many came in, what a present and an absent key
 // answer after that, and all words. docs/oracle/fills.py says how the stored list was made.
+#![tactic(auto)]
+
 ghost use Rattle.std.specs.Prelude.{◌≡◌, ◌<◌};
 ghost use Rattle.fills.specs.Filling.{Fills};
 
@@ -7,6 +9,7 @@ use checker::check;
 use format::format;
 use map::{get, put};
 use model::Answer;
+use std::io;
 use telling::{around, say, say_line};
 
 // The words of 64 nodes.
@@ -15,9 +18,9 @@ const LONG: usize = 2506;
 // The keys are below this prime.
 const ROUND: u64 = 10_007;
 
-fn tell(r: Answer) {
-    say(r.number());
-    say(r.word());
+fn tell(rt: &impl Print, r: Answer) -> io::Result<()> {
+    say(rt, r.number())?;
+    say(rt, r.word())
 }
 
 // How many keys come in, each `step` after the last, until one finds no room.
@@ -38,23 +41,23 @@ fn puts(a: &mut [u64], first: u64, step: u64) -> u64
     i
 }
 
-fn fill(a: &mut [u64], first: u64, step: u64)
+fn fill(rt: &impl Print, a: &mut [u64], first: u64, step: u64) -> io::Result<()>
     requires { (first < 10007) × (step < 10007) }
 {
     format(a);
-    say(puts(a, first, step));
-    tell(put(a, first, 77));
-    tell(put(a, ROUND, 0));
-    tell(get(a, first));
-    tell(get(a, ROUND));
-    tell(check(a));
-    io::write_all(1, b"\n");
-    say_line(a);
+    say(rt, puts(a, first, step))?;
+    tell(rt, put(a, first, 77))?;
+    tell(rt, put(a, ROUND, 0))?;
+    tell(rt, get(a, first))?;
+    tell(rt, get(a, ROUND))?;
+    tell(rt, check(a))?;
+    println!(rt)?;
+    say_line(rt, a)
 }
 
-fn main() {
+fn main(rt: HostRuntime) -> io::Result<()> {
     let mut a = [7; LONG];
-    fill(&mut a, 1, 1);
-    fill(&mut a, 9999, 10_006);
-    fill(&mut a, 1, 7919);
+    fill(&rt, &mut a, 1, 1)?;
+    fill(&rt, &mut a, 9999, 10_006)?;
+    fill(&rt, &mut a, 1, 7919)
 }

@@ -123,6 +123,7 @@ pub fn keep_none(a: &[u64], changes: u64, words: &mut [u64]) -> Picked
 }
 
 // The moved cursor is written, a refused step leaves the words.
+#[tactic(auto, using(crate::proofs::Four::step_kept, crate::proofs::Four::step_moved))]
 fn keep_step(m: Moved, words: &mut [u64]) -> Picked
     requires { length words.old ≡ 4 }
     ensures { (result ≡ m.found) × (words.new ≡ step_words m.found (cursor_of m.cursor) words.old) }

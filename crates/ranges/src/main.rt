@@ -1,5 +1,7 @@
 // Gets keys and lists ranges on three arenas, empty, of one leaf and of three levels: every kind of bound at keys around the borders of
 // the nodes, with room for three pairs and with room for all. docs/oracle/ranges.rs says how the stored list was made.
+#![tactic(auto)]
+
 ghost use Rattle.std.specs.Prelude.{◌≡◌, ◌+◌, ◌*◌, ◌<◌, ◌≤◌, length};
 ghost use Rattle.ranges.specs.Bounds.{tried_bound};
 
@@ -8,6 +10,7 @@ use listing::list;
 use map::get;
 use model::{Range, SearchBound};
 use node::NONE;
+use std::io;
 use telling::{say, say_line};
 
 // The words of fifteen nodes.
@@ -99,87 +102,87 @@ fn bound(kind: usize, key: u64) -> SearchBound
 }
 
 // Lists a range into an output, and tells all that is answered and what the output then holds.
-fn tell(a: &[u64], range: Range, out: &mut [u64]) {
+fn tell(rt: &impl Print, a: &[u64], range: Range, out: &mut [u64]) -> io::Result<()> {
     let r = list(a, range, out);
     let answer = r.answer;
-    say(answer.number());
-    say(r.wrote as u64);
-    say(if r.more { 1 } else { 0 });
-    say_line(out);
+    say(rt, answer.number())?;
+    say(rt, r.wrote as u64)?;
+    say(rt, if r.more { 1 } else { 0 })?;
+    say_line(rt, out)
 }
 
 // The range with these bounds, with room for three pairs and one word over.
-fn both(a: &[u64], start: SearchBound, end: SearchBound) {
+fn both(rt: &impl Print, a: &[u64], start: SearchBound, end: SearchBound) -> io::Result<()> {
     let mut out = [9; 7];
-    tell(a, Range { start, end }, &mut out);
+    tell(rt, a, Range { start, end }, &mut out)
 }
 
-fn ends(a: &[u64], start: SearchBound) {
+fn ends(rt: &impl Print, a: &[u64], start: SearchBound) -> io::Result<()> {
     let mut kind = 0;
     while kind < 2 {
         let mut i = 0;
         while i < 6 {
-            both(a, start, bound(kind, KEYS[i]));
+            both(rt, a, start, bound(kind, KEYS[i]))?;
             i += 1;
         }
         kind += 1;
     }
-    both(a, start, SearchBound::AllIncluded);
+    both(rt, a, start, SearchBound::AllIncluded)
 }
 
-fn starts(a: &[u64]) {
+fn starts(rt: &impl Print, a: &[u64]) -> io::Result<()> {
     let mut kind = 0;
     while kind < 2 {
         let mut i = 0;
         while i < 6 {
-            ends(a, bound(kind, KEYS[i]));
+            ends(rt, a, bound(kind, KEYS[i]))?;
             i += 1;
         }
         kind += 1;
     }
-    ends(a, SearchBound::AllIncluded);
+    ends(rt, a, SearchBound::AllIncluded)
 }
 
 // Every key up to 150, in a row of answers.
-fn gets(a: &[u64]) {
+fn gets(rt: &impl Print, a: &[u64]) -> io::Result<()> {
     let mut key = 0;
     while key < 150 {
         let r = get(a, key);
-        say(r.number());
-        say(r.word());
+        say(rt, r.number())?;
+        say(rt, r.word())?;
         key += 1;
     }
-    io::write_all(1, b"\n");
+    println!(rt)
 }
 
 // All pairs, with room for just as many, for one fewer and for none.
-fn whole(a: &[u64]) {
+fn whole(rt: &impl Print, a: &[u64]) -> io::Result<()> {
     let range = Range {
         start: SearchBound::AllIncluded,
         end: SearchBound::AllIncluded,
     };
     let mut enough = [9; 142];
-    tell(a, range, &mut enough);
+    tell(rt, a, range, &mut enough)?;
     let mut short = [9; 140];
-    tell(a, range, &mut short);
+    tell(rt, a, range, &mut short)?;
     let mut none = [9; 1];
-    tell(a, range, &mut none);
+    tell(rt, a, range, &mut none)
 }
 
-fn all(a: &[u64]) {
-    gets(a);
-    whole(a);
-    starts(a);
+fn all(rt: &impl Print, a: &[u64]) -> io::Result<()> {
+    gets(rt, a)?;
+    whole(rt, a)?;
+    starts(rt, a)
 }
 
-fn main() {
+fn main(rt: HostRuntime) -> io::Result<()> {
     let mut a = [7; LONG];
-    all(&a);
+    all(&rt, &a)?;
     format(&mut a);
-    all(&a);
+    all(&rt, &a)?;
     one_leaf(&mut a);
-    all(&a);
+    all(&rt, &a)?;
     format(&mut a);
     three_levels(&mut a);
-    all(&a);
+    all(&rt, &a)
 }

@@ -1,7 +1,7 @@
 // Replays the records of standard input, 24 bytes each, on an index of 150 nodes: orders, listings and forks. All words of the arena are
 // mixed into one number after each change, so that node shapes are compared as well. What it must write was written by the Rust's own
 // btree code: oracle/README.md says how, and oracle/src/replay.rs what each record is.
-ghost use Rattle.std.specs.Prelude.{◌≡◌, ◌+◌, ◌≤◌, length};
+ghost use Rattle.std.specs.Prelude.{◌≡◌, ℕ, ◌+◌, ◌≤◌, length, IfOk, OnErr};
 ghost use Rattle.replay.specs.Records.{ListingMixed, Replays, read_bound, bound_key, bound_kind, read_range};
 
 use batch::order;
@@ -10,7 +10,8 @@ use format::format;
 use listing::list;
 use model::{Answer, Range, SearchBound};
 use search::{Bifurcation, search_tree_for_bifurcation};
-use telling::{mix_words, say, say_answer, say_last, say_words, word_at};
+use std::io;
+use telling::{mix_words, read_full, say, say_answer, say_last, say_words, word_at};
 
 // The words of 150 nodes.
 const LONG: usize = 5860;
@@ -73,29 +74,30 @@ fn key(b: SearchBound) -> u64
     }
 }
 
-// ListingMixed a range into eight pairs' room and a word; what the output then holds is mixed in.
-fn listing(a: &[u64], range: Range, mix: u64) -> u64
-    ensures { ListingMixed range mix a.now result }
+// Lists a range into eight pairs' room and a word; what the output then holds is mixed in.
+fn listing(rt: &impl Print, a: &[u64], range: Range, mix: u64) -> io::Result<u64>
+    ensures ok { IfOk result (λ now. ListingMixed range mix a.now now) }
+    ensures err { OnErr result ((now : ℕ) × ListingMixed range mix a.now now) }
 {
     let mut out = [9; 17];
     let r = list(a, range, &mut out);
     let answer = r.answer;
-    say(answer.number());
-    say(r.wrote as u64);
-    say(if r.more { 1 } else { 0 });
+    say(rt, answer.number())?;
+    say(rt, r.wrote as u64)?;
+    say(rt, if r.more { 1 } else { 0 })?;
     let now = mix_words(mix, &out);
-    say_last(now);
-    now
+    say_last(rt, now)?;
+    Ok(now)
 }
 
 // Node, both edges and the children's bounds; or node and edge.
-fn say_fork(f: Bifurcation) {
+fn say_fork(rt: &impl Print, f: Bifurcation) -> io::Result<()> {
     match f {
         Bifurcation::Together(edge) => {
             let node = edge.node;
             let at = edge.at;
-            say(node.0 as u64);
-            say_last(at.0 as u64);
+            say(rt, node.0 as u64)?;
+            say_last(rt, at.0 as u64)
         }
         Bifurcation::Parted(p) => {
             let node = p.node;
@@ -104,79 +106,81 @@ fn say_fork(f: Bifurcation) {
             let bounds = p.bounds;
             let start = bounds.start;
             let end = bounds.end;
-            say(node.0 as u64);
-            say(lower.0 as u64);
-            say(upper.0 as u64);
-            say(kind(start));
-            say(key(start));
-            say(kind(end));
-            say_last(key(end));
+            say(rt, node.0 as u64)?;
+            say(rt, lower.0 as u64)?;
+            say(rt, upper.0 as u64)?;
+            say(rt, kind(start))?;
+            say(rt, key(start))?;
+            say(rt, kind(end))?;
+            say_last(rt, key(end))
         }
     }
 }
 
 // Where the edges of a range part, or the leaf edge where they do not.
-fn fork(a: &[u64], range: Range) {
+fn fork(rt: &impl Print, a: &[u64], range: Range) -> io::Result<()> {
     if !well_formed(a) {
-        say_answer(Answer::BadArena);
-        return;
+        return say_answer(rt, Answer::BadArena);
     }
-    say_fork(search_tree_for_bifurcation(a, range));
+    say_fork(rt, search_tree_for_bifurcation(a, range))
 }
 
 // The mix so far and the header.
-fn tell(mix: u64, a: &[u64])
+fn tell(rt: &impl Print, mix: u64, a: &[u64]) -> io::Result<()>
     requires { length a.now ≡ 5860 }
 {
-    say(mix);
-    say_words(&a[0..9]);
-    say_last(a[9]);
+    say(rt, mix)?;
+    say_words(rt, &a[0..9])?;
+    say_last(rt, a[9])
 }
 
-// One record; the mix after it.
-fn run(a: &mut [u64], code: u64, k: u64, v: u64, mix: u64) -> u64
+// One record; the mix after it. Where it can't be told, it is done all the same.
+fn run(rt: &impl Print, a: &mut [u64], code: u64, k: u64, v: u64, mix: u64) -> io::Result<u64>
     requires { length a.old ≡ 5860 }
-    ensures { Replays code k v mix a.old a.new result }
+    ensures ok { IfOk result (λ now. Replays code k v mix a.old a.new now) }
+    ensures err { OnErr result ((now : ℕ) × Replays code k v mix a.old a.new now) }
 {
     if code == FORMAT {
-        say_answer(format(a));
-        return mix_words(mix, a);
+        say_answer(rt, format(a))?;
+        return Ok(mix_words(mix, a));
     }
     if code == TELL {
-        tell(mix, a);
-        return mix;
+        tell(rt, mix, a)?;
+        return Ok(mix);
     }
     let range = range_of(code, k, v);
     if code / 16 == LISTING / 16 {
-        return listing(a, range, mix);
+        return listing(rt, a, range, mix);
     }
     if code / 16 == FORK / 16 {
-        fork(a, range);
-        return mix;
+        fork(rt, a, range)?;
+        return Ok(mix);
     }
-    say_answer(order(a, code, k, v));
-    mix_words(mix, a)
+    say_answer(rt, order(a, code, k, v))?;
+    Ok(mix_words(mix, a))
 }
 
 // All records to the end of the input.
-fn run_all(a: &mut [u64])
+fn run_all(rt: &(impl Input + Print), a: &mut [u64]) -> io::Result<()>
     requires { length a.old ≡ 5860 }
 {
+    let mut input = rt.reader();
     let mut b = [0u8; RECORD];
     let mut mix = 0;
     let mut turns = TURNS;
     while turns > 0 {
-        let n = io::read_full(0, &mut b);
+        let n = read_full(&mut input, &mut b)?;
         if n < RECORD {
-            return;
+            return Ok(());
         }
-        mix = run(a, word_at(&b, 0), word_at(&b, 8), word_at(&b, 16), mix);
+        mix = run(rt, a, word_at(&b, 0), word_at(&b, 8), word_at(&b, 16), mix)?;
         turns -= 1;
     }
+    Ok(())
 }
 
-fn main() {
+fn main(rt: HostRuntime) -> io::Result<()> {
     let mut a = [0; LONG];
     format(&mut a);
-    run_all(&mut a);
+    run_all(&rt, &mut a)
 }

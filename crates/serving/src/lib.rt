@@ -1,12 +1,13 @@
 // What the programs `orders` and `short_order` do: they run the orders of standard input, 24 bytes each, on an index of 64 nodes, answer each
 // with its number and second word, and end with the pairs, the free nodes, and the mark.
-ghost use Rattle.std.specs.Prelude.{◌≡◌, length};
+ghost use Rattle.std.specs.Prelude.{◌≡◌, length, IfOk};
 ghost use Rattle.serving.specs.Serving.{Serves, goes_on};
 
 use batch::order;
 use format::format;
 use model::Answer;
-use telling::{say, say_answer, say_last, word_at};
+use std::io;
+use telling::{read_full, say, say_answer, say_last, word_at};
 
 // The words of 64 nodes.
 const LONG: usize = 2506;
@@ -39,48 +40,50 @@ fn serve_bytes(a: &mut [u64], b: &[u8]) -> Served
 }
 
 // Writes the answer out; whether to read on.
-fn tell(s: Served) -> bool
-    ensures { result ≡ goes_on s }
+fn tell(rt: &impl Print, s: Served) -> io::Result<bool>
+    ensures { IfOk result (λ on. on ≡ goes_on s) }
 {
     match s {
         Served::Answered(r) => {
-            say_answer(r);
-            true
+            say_answer(rt, r)?;
+            Ok(true)
         }
         Served::Last(r) => {
-            say_answer(r);
-            false
+            say_answer(rt, r)?;
+            Ok(false)
         }
-        Served::Over => false,
+        Served::Over => Ok(false),
     }
 }
 
 // All orders to the end of the input.
-fn run_all(a: &mut [u64]) {
+fn run_all(rt: &(impl Input + Print), a: &mut [u64]) -> io::Result<()> {
+    let mut input = rt.reader();
     let mut b = [0u8; ORDER];
     let mut turns = TURNS;
     while turns > 0 {
-        let n = io::read_full(0, &mut b);
-        if !tell(serve_bytes(a, &b[..n])) {
-            return;
+        let n = read_full(&mut input, &mut b)?;
+        if !tell(rt, serve_bytes(a, &b[..n]))? {
+            return Ok(());
         }
         turns -= 1;
     }
+    Ok(())
 }
 
 // Pairs, free nodes, seen and mark.
-fn last_line(a: &[u64])
+fn last_line(rt: &impl Print, a: &[u64]) -> io::Result<()>
     requires { length a.now ≡ 2506 }
 {
-    say(a[5]);
-    say(a[7]);
-    say(a[8]);
-    say_last(a[9]);
+    say(rt, a[5])?;
+    say(rt, a[7])?;
+    say(rt, a[8])?;
+    say_last(rt, a[9])
 }
 
-pub fn serve() {
+pub fn serve(rt: &(impl Input + Print)) -> io::Result<()> {
     let mut a = [0; LONG];
     format(&mut a);
-    run_all(&mut a);
-    last_line(&a);
+    run_all(rt, &mut a)?;
+    last_line(rt, &a)
 }

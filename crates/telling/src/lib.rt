@@ -1,21 +1,27 @@
 // What the programs share: numbers and words written out, words read from bytes, an arena's words mixed into one number.
-ghost use Rattle.std.specs.Prelude.{◌≡◌, ◌+◌, ◌*◌, ◌%◌, ◌^◌, ◌<◌, ◌≤◌, length};
-ghost use Rattle.io.specs.Counts.{IsPrefixLen};
+// Where a writing fails, part of its text may have been written; nothing else has changed.
+#![tactic(auto)]
+
+ghost use Rattle.std.specs.Prelude.{◌≡◌, ◌+◌, ◌*◌, ◌%◌, ◌^◌, ◌<◌, ◌≤◌, length, take, IfOk};
+ghost use Rattle.std.specs.Counts.{IsPrefixLen};
+ghost use Rattle.std.specs.Io.{ReadsAtMost};
+ghost use Rattle.std.specs.Io.KnownBytes.{Consumes, IsAtEnd};
 ghost use Rattle.telling.specs.Numbers.{half_in, word_in, mix_of, mix_all, around_of};
 
+use itoa::Buffer;
 use model::Answer;
+use std::io;
+use std::io::Read;
 use std::num::{wrapping_add_u64, wrapping_sub_u64};
 
 // A number and a space.
-pub fn say(n: u64) {
-    io::print_decimal(1, n);
-    io::write_all(1, b" ");
+pub fn say(rt: &impl Print, n: u64) -> io::Result<()> {
+    print!(rt; "{n} ")
 }
 
 // A number and the end of the line.
-pub fn say_last(n: u64) {
-    io::print_decimal(1, n);
-    io::write_all(1, b"\n");
+pub fn say_last(rt: &impl Print, n: u64) -> io::Result<()> {
+    println!(rt; "{n}")
 }
 
 // A number of digits, of which a word has 20 at most.
@@ -30,8 +36,9 @@ fn put_number(line: &mut [u8], at: usize, n: u64) -> usize
     requires { at + 20 ≤ length line.old }
     ensures { result ≤ at + 20 }
 {
-    let mut text = [0u8; 20];
-    let k = few(io::decimal(n, &mut text));
+    let mut digits = Buffer::new();
+    let text = digits.format(n).as_bytes();
+    let k = few(text.len());
     let mut i = 0;
     while i < k {
         line[at + i] = text[i];
@@ -52,25 +59,44 @@ fn put_answer(line: &mut [u8], r: Answer) -> usize
 }
 
 // A line with an answer's number and second word, by one write.
-pub fn say_answer(r: Answer) {
+pub fn say_answer(rt: &impl Print, r: Answer) -> io::Result<()> {
     let mut line = [b' '; 42];
     let k = put_answer(&mut line, r);
-    io::write_all(1, &line[..k]);
+    rt.write_all(&line[..k])
 }
 
 // Each word and a space.
-pub fn say_words(a: &[u64]) {
+pub fn say_words(rt: &impl Print, a: &[u64]) -> io::Result<()> {
     let mut i = 0;
     while i < a.len() {
-        say(a[i]);
+        say(rt, a[i])?;
         i += 1;
     }
+    Ok(())
 }
 
 // A line of words, with a space after each.
-pub fn say_line(a: &[u64]) {
-    say_words(a);
-    io::write_all(1, b"\n");
+pub fn say_line(rt: &impl Print, a: &[u64]) -> io::Result<()> {
+    say_words(rt, a)?;
+    println!(rt)
+}
+
+// Reads until the buffer is full or the input ends; how many bytes were read, which lie at the buffer's front. Where a reading fails, the bytes
+// that came before it are in the buffer, and how many is not told.
+pub fn read_full<R: Read>(input: &mut R, buf: &mut [u8]) -> io::Result<usize>
+    ensures bound { ReadsAtMost result buf.new }
+    ensures bytes { IfOk result (λ n. Consumes (R.remaining input.old) (R.remaining input.new) (take n buf.new)) }
+    ensures end { IfOk result (λ n. n < length buf.new → IsAtEnd (R.remaining input.new)) }
+{
+    let mut done = 0;
+    while done < buf.len() {
+        let n = input.read(&mut buf[done..])?;
+        if n == 0 {
+            return Ok(done);
+        }
+        done += n;
+    }
+    Ok(done)
 }
 
 fn wide(x: u8) -> u64
