@@ -1,5 +1,7 @@
 // Runs batches and restores on small arenas, through each refusal that they have and back, and prints after each call its answer, the
 // batch's answers, and all words. docs/oracle/batches.py says how the stored list was made.
+#![tactic(auto)]
+
 use batch::batch;
 use format::format;
 use restore::restore;

@@ -1,5 +1,7 @@
 // Runs the orders of standard input, 24 bytes each, on an index of 64 nodes: crates/serving. Told anything on its command line, it says
 // how it is used, and reads nothing.
+#![tactic(auto)]
+
 use std::env::FillError;
 use std::io;
 use std::rt::Env;

@@ -1,6 +1,8 @@
 // Replays the records of standard input, 24 bytes each, on an index of 150 nodes: orders, listings and forks. All words of the arena are
 // mixed into one number after each change, so that node shapes are compared as well. What it must write was written by the Rust's own
 // btree code: oracle/README.md says how, and oracle/src/replay.rs what each record is.
+#![tactic(auto)]
+
 ghost use Rattle.std.specs.Prelude.{◌≡◌, ℕ, ◌+◌, ◌≤◌, length, IfOk, OnErr};
 ghost use Rattle.replay.specs.Records.{ListingMixed, Replays, read_bound, bound_key, bound_kind, read_range};
 

@@ -1,5 +1,7 @@
 // What the programs `orders` and `short_order` do: they run the orders of standard input, 24 bytes each, on an index of 64 nodes, answer each
 // with its number and second word, and end with the pairs, the free nodes, and the mark.
+#![tactic(auto)]
+
 ghost use Rattle.std.specs.Prelude.{◌≡◌, length, IfOk};
 ghost use Rattle.serving.specs.Serving.{Serves, goes_on};
 

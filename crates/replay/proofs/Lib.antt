@@ -1,0 +1,3 @@
+-- The files of this crate's lemmas.
+-- Assumes nothing.
+mod Failed
