@@ -1,6 +1,7 @@
 // Loading a sorted run, pair by pair (append.rs): the last leaf is filled, then the next pair goes up to the lowest node with room, with an
 // empty right side after it. No count is kept on the way; the end sets them all.
 #![tactic(auto)]
+
 ghost use Rattle.std.specs.Prelude.{◌≡◌, List, length, set, ℕ, suc, ◌≤◌};
 ghost use Rattle.model.specs.Tree.{Pair, Whole};
 ghost use Rattle.model.specs.Lists.{All};

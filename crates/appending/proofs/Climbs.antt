@@ -34,8 +34,8 @@ use Rattle.appending.proofs.Steps.{hole_of}
 pub outward : {w : List ℕ} {g : Rest} {h : ℕ} (f : Frame (Tree h)) (c : Ctx (suc h)) (t : Tree h) (free : List ℕ) → HoleBy Uncounted w g (under f c) t free → HoleBy Uncounted w g c (fill f.no f.left t f.right) free
 outward f c t free H = record { nodes = H.nodes; arena = H.arena; stand = zoom_out f c t free H.stand; many = H.many; told = tt }
 
-pub enter-in : {w : List ℕ} {g : Rest} {h : ℕ} (c : Ctx h) (t : Tree h) (free : List ℕ) → ClosedBy Uncounted w g (record { whole = plug c t; free = free }) → HoleBy Uncounted w g c t free
-enter-in c t free H = record { nodes = H.nodes; arena = rw (plug_root c t, plug_top c t) at H.arena; stand = enter c t free H.stand; many = H.many; told = tt }
+pub enter_in : {w : List ℕ} {g : Rest} {h : ℕ} (c : Ctx h) (t : Tree h) (free : List ℕ) → ClosedBy Uncounted w g (record { whole = plug c t; free = free }) → HoleBy Uncounted w g c t free
+enter_in c t free H = record { nodes = H.nodes; arena = rw (plug_root c t, plug_top c t) at H.arena; stand = enter c t free H.stand; many = H.many; told = tt }
 
 -- ---- the climb
 
@@ -192,7 +192,7 @@ rising_start {w} {g} {leaf} {l} p o room full = go l.way o.held o.leaf_is o.fill
     go top H e fc i s = absurd i
     go (under f c) H e fc i s =
         let u = fill f.no f.left tt f.right in
-        let h = enter-in c u (free_from g l.next) H in
+        let h = enter_in c u (free_from g l.next) H in
         let long : word_at w leaf length_word ≡ length f.left + length f.right = subst (λ (n : ℕ). word_at w n length_word ≡ length f.left + length f.right) e (node_long c u (free_from g l.next) h ∙ length_fill f.no f.left tt f.right) in
         record {
           height = 0;

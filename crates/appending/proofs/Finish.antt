@@ -41,8 +41,8 @@ module _ {w : List ℕ} {g : Rest} {h : ℕ} (u : Tree (suc h)) (free : List ℕ
   abbrev t : Whole
   t = record { height = suc h; root = u }
 
-  abbrev tree-in : TreeIn H.nodes u.no h
-  tree-in = record {
+  abbrev tree_in : TreeIn H.nodes u.no h
+  tree_in = record {
     tree = u;
     node_is = refl;
     stands = H.stand.tree;
@@ -54,7 +54,7 @@ module _ {w : List ℕ} {g : Rest} {h : ℕ} (u : Tree (suc h)) (free : List ℕ
 
   tree_counted : (w' : List ℕ) → CountCall w w' u.no h → ClosedIn w' g (record { whole = t; free = free })
   tree_counted w' call =
-      let c = call _ H.nodes tree-in H.arena in
+      let c = call _ H.nodes tree_in H.arena in
       let k = hole_kept (top {h = suc h}) u free c.same H.stand in
       record { nodes = c.nodes; arena = c.arena; stand = k; many = c.same.long ∙ H.many; told = all_total c.nodes t free k c.right }
 
@@ -64,7 +64,7 @@ module _ {w : List ℕ} {g : Rest} {h : ℕ} (u : Tree (suc h)) (free : List ℕ
       let eh : header w height_word ≡ h = hole_header (top {h = suc h}) u free H height_word (omega arith) in
       subst (λ (b : ℕ). Countable w g t free (header w root_word) b) (sym eh)
       (subst (λ (n : ℕ). Countable w g t free n h) (sym er)
-      (record { asks = record { head = _; nodes = H.nodes; arena = H.arena; holds = tree-in }; leaves = tree_counted }))
+      (record { asks = record { head = _; nodes = H.nodes; arena = H.arena; holds = tree_in }; leaves = tree_counted }))
 
 pub countable : {w : List ℕ} {g : Rest} (t : Whole) (free : List ℕ) → RootFull t.height t.root → ClosedBy Uncounted w g (record { whole = t; free = free }) → Countable w g t free (header w root_word) (header w height_word)
 countable {w} {g} t free f H = go t.height t.root f H
@@ -134,8 +134,8 @@ module _ {n : ℕ} {w run : List ℕ} (o : Loads n w run) where
   pub begins : Begun w (rest_of (formatted n)) (header w root_word) run
   begins = rw root_none (formatted_begun n run o.some o.few o.words o.room)
 
-  pub begins-in : BegunIn w run
-  begins-in = record { rest = rest_of (formatted n); begins = begins; even = o.even }
+  pub begins_in : BegunIn w run
+  begins_in = record { rest = rest_of (formatted n); begins = begins; even = o.even }
 
   -- so many pairs
   pub half_is : (c : ℕ) → c ≡ length run / 2 → c ≡ length (pairs_of run)

@@ -27,8 +27,8 @@ use Rattle.loading.proofs.Bridges.{pillar, opened_plug, free_step}
 use Rattle.internal.specs.Inner.{crown_nodes, CrownReady, Crownable}
 use Rattle.appending.specs.Asides.{AsideIn}
 use Rattle.appending.specs.Pushes.{last_leaf, last_long, free_from, LoadIn, Roomy, Building, Place}
-use Rattle.appending.proofs.Steps.{with_leaf, leaf_step, high-in, crown_long, crown_step}
-use Rattle.appending.proofs.Climbs.{enter-in}
+use Rattle.appending.proofs.Steps.{with_leaf, leaf_step, high_in, crown_long, crown_step}
+use Rattle.appending.proofs.Climbs.{enter_in}
 
 -- ---- what the calls are known to do
 
@@ -93,7 +93,7 @@ module _ {w : List ℕ} {g : Rest} {h : ℕ} (c : Ctx (suc h)) (x : Tree (suc h)
     hd₁ = head_words g (root_of c x.no) (pred (top_of c)) (m ∷ free_from g (suc m))
 
     crown_ready : CrownReady hd₁ more_free.nodes (m ∷ free_from g (suc m)) side
-    crown_ready = record { take = take_ready c x (suc B.below) y m (free_from g (suc m)) more_free.stand hd₁ refl refl; node = rw B.top_is at (high-in c x y m (free_from g (suc m)) more_free.stand) }
+    crown_ready = record { take = take_ready c x (suc B.below) y m (free_from g (suc m)) more_free.stand hd₁ refl refl; node = rw B.top_is at (high_in c x y m (free_from g (suc m)) more_free.stand) }
 
     pub crown_has : Has w (λ hd ns. Crownable hd ns side)
     crown_has = record { head = hd₁; nodes = more_free.nodes; arena = more_free.arena; holds = (m ∷ free_from g (suc m), crown_ready) }
@@ -225,7 +225,7 @@ module _ {w : List ℕ} {g : Rest} {node : ℕ} {l : Loading} (o : LoadIn w g no
       go top H e fc i s = absurd i
       go (under f c) H e fc i s =
           let free = free_from g l.next in
-          let h = enter-in (under f c) tt free H in
+          let h = enter_in (under f c) tt free H in
           let O : AsideIn w g (under f c) tt 0 tt free = record { nodes = h.nodes; arena = h.arena; stand = start (under f c) tt free h.stand; many = h.many } in
           let k = known_here f c tt tt free O.arena O.stand in
           let long : word_at w node length_word ≡ length f.left = subst (λ (i : ℕ). word_at w i length_word ≡ length f.left) e (k.1 ∙ omega (arith, ap length fc.0)) in

@@ -81,15 +81,15 @@ module _ {h : ℕ} (c : Ctx (suc h)) (x : Tree (suc h)) {j : ℕ} (y : Tree (suc
   kind_some zero = omega arith
   kind_some (suc h) = omega arith
 
-  pub high-in : y.no < length ns
-  high-in = O.within y.no (omega (arith, one_self y.no))
+  pub high_in : y.no < length ns
+  high_in = O.within y.no (omega (arith, one_self y.no))
 
   crowns : Crowns ns y.no m (first_or free)
   crowns = record {
     few = O.few;
     inside = free_in c x (suc j) y m free O;
     is_free = O.chain.0;
-    root = high-in;
+    root = high_in;
     live = rw (body_state O.high.0) (kind_some j);
     loose = O.loose;
   }

@@ -18,7 +18,7 @@ use Rattle.node.specs.Reading.{Within, Has}
 use Rattle.balance.specs.Moves.{move_nodes, StealReady}
 use Rattle.standing.specs.Standing.{Hole, Beside}
 use Rattle.standing.specs.Heads.{Rest, HoleBy, ClosedBy, Uncounted}
-use Rattle.standing.proofs.Scenes.{zoom-in}
+use Rattle.standing.proofs.Scenes.{zoom_in}
 use Rattle.shrinking.proofs.Steps.{left_long, lends_left, move_long, move_step, beside_high, hole_high}
 use Rattle.fix.proofs.Holes.{closed_in, hole_header, hole_long, node_within, node_long, node_most, left_sibling, own_edge}
 use Rattle.model.specs.Load.{Bordering, short, lent, lend_last, plenty_of, plenty_down}
@@ -75,7 +75,7 @@ module _ {w : List ℕ} {g : Rest} {node h : ℕ} {t : Whole} {free : List ℕ} 
   f = record { no = x.tree.no; left = L.item ∷ L.lows; right = [] }
 
   abbrev H : HoleBy Uncounted w g (under f x.way) L.child free
-  H = record { nodes = x.held.nodes; arena = x.held.arena; stand = zoom-in f x.way L.child free (subst (λ (v : Tree (suc (suc h))). Hole x.held.nodes x.way v free) L.filled x.held.stand); many = x.held.many; told = tt }
+  H = record { nodes = x.held.nodes; arena = x.held.arena; stand = zoom_in f x.way L.child free (subst (λ (v : Tree (suc (suc h))). Hole x.held.nodes x.way v free) L.filled x.held.stand); many = x.held.many; told = tt }
 
   count_is : length x.tree.rest ≡ suc (length L.lows)
   count_is = ap (λ (v : Tree (suc (suc h))). length v.rest) L.filled ∙ length_fill x.tree.no (L.item ∷ L.lows) L.child [] ∙ omega arith
@@ -178,9 +178,9 @@ stock_starts {w} {g} {t} {free} x = go t.height t.root x.held x.plenty
         let er : header w root_word ≡ u.no = hole_header top u free H root_word (omega arith) in
         subst (λ (i : ℕ). Stocks w g (header w root_word) i (plenty_of (suc h) u) free) (sym eh) (record { way = top; tree = u; held = H; node_is = sym er; some = root_some h (length u.rest) r.0; plenty = r.1; same = refl })
 
-pub stocks-in : {w : List ℕ} {g : Rest} {node : ℕ} {t : Whole} {free : List ℕ} (h : ℕ) → 0 < h → Stocks w g node h t free → StocksIn w node
-stocks-in zero l x = absurd (omega arith)
-stocks-in {g = g} {t = t} {free = free} (suc h) l x = record { height = h; rest = g; end = t; free = free; coming = x }
+pub stocks_in : {w : List ℕ} {g : Rest} {node : ℕ} {t : Whole} {free : List ℕ} (h : ℕ) → 0 < h → Stocks w g node h t free → StocksIn w node
+stocks_in zero l x = absurd (omega arith)
+stocks_in {g = g} {t = t} {free = free} (suc h) l x = record { height = h; rest = g; end = t; free = free; coming = x }
 
 pub stock_step : {w w' : List ℕ} {g : Rest} {node r : ℕ} {t : Whole} {free : List ℕ} (h : ℕ) → 0 < h → ((h : ℕ) (g : Rest) (t : Whole) (free : List ℕ) → Stocks w g node (suc h) t free → Stocks w' g r h t free) → Stocks w g node h t free → Stocks w' g r (h - 1) t free
 stock_step zero l call x = absurd (omega arith)

@@ -1,5 +1,6 @@
 // Two neighbours under one parent: merged, or pairs moved from one to the other.
 #![tactic(auto)]
+
 ghost use Rattle.std.specs.Prelude.{◌≡◌, List, ℕ, ◌+◌, ◌-◌, length};
 ghost use Rattle.model.specs.Layout.{state_word, word_at, NodeVal, Arena, nth};
 ghost use Rattle.node.specs.Reading.{Within, Has};

@@ -38,8 +38,8 @@ module _ {s : Side} {st : State} (b : Bordering s st) {w : List ℕ} (e : w ≡ 
   border_repaired r = (record { sound = mended_sound b; words = mended_words b (r (rest_of st) (grown_of st) bordering_rooted) }, mended_list b)
 
 -- what fix_right_border and fix_left_border require, for their steps; and what they ensure, from what those ensure
-pub short-in : {s : Side} {w : List ℕ} → ShortOn s w → RootedIn w
-short-in x = record { rest = rest_of x.state; end = grown_of x.state; rooted = bordering_rooted x.short x.words }
+pub short_in : {s : Side} {w : List ℕ} → ShortOn s w → RootedIn w
+short_in x = record { rest = rest_of x.state; end = grown_of x.state; rooted = bordering_rooted x.short x.words }
 
 pub repairs : (s : Side) {w w' : List ℕ} → ((g : Rest) (t : Grown) → Rooted w g t → Rooted w' g (border s t)) → Repairs s w w'
 repairs s r st b e = border_repaired b e r

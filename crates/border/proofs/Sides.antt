@@ -22,7 +22,7 @@ use Rattle.model.proofs.Cut.{length_join, join_cut}
 use Rattle.node.specs.declared.NodeNo.{NodeNo}
 use Rattle.node.specs.Reading.{Within}
 use Rattle.standing.specs.Standing.{Hole}
-use Rattle.standing.proofs.Scenes.{zoom-in}
+use Rattle.standing.proofs.Scenes.{zoom_in}
 use Rattle.shrinking.proofs.Steps.{beside_high, beside_low, hole_low, hole_high}
 use Rattle.fix.specs.declared.BalancingContext.{BalancingContext}
 use Rattle.standing.specs.Heads.{Rest, HoleIn}
@@ -75,7 +75,7 @@ module _ {s : Side} {w : List ℕ} {g : Rest} {h : ℕ} {t : Grown} {b : Balanci
         way = under f B.ctx;
         tree = join B.twin;
         free = returned B.twin.right.no B.free;
-        held = record { nodes = H.nodes; arena = H.arena; stand = zoom-in f B.ctx (join B.twin) (returned B.twin.right.no B.free) H.stand; many = H.many; told = H.told };
+        held = record { nodes = H.nodes; arena = H.arena; stand = zoom_in f B.ctx (join B.twin) (returned B.twin.right.no B.free) H.stand; many = H.many; told = H.told };
         node_is = ap (λ (x : BalancingContext). x.left.0) B.is;
         some = some_pairs B.height (length (join B.twin).rest) (omega (arith, length_join B.twin));
         same = q.when_merged e;
@@ -124,8 +124,8 @@ module _ {s : Side} {w : List ℕ} {g : Rest} {h : ℕ} {t : Grown} {b : Balanci
               by left f z = omega (arith, many)
               by right f z = omega (arith, many)
 
-      pub stock-in : Stealing (other s) w b k
-      stock-in = record { rest = g; both = B; some = omega arith; lent = lent; room = omega arith }
+      pub stock_in : Stealing (other s) w b k
+      stock_in = record { rest = g; both = B; some = omega arith; lent = lent; room = omega arith }
 
       stolen_no : (s : Side) → (taker (other s) (steal (other s) k B.twin)).no ≡ (taker (other s) B.twin).no
       stolen_no right = refl
@@ -181,7 +181,7 @@ module _ {w : List ℕ} {g : Rest} {node h : ℕ} {t : Grown} where
     f = record { no = x.tree.no; left = L.item ∷ L.lows; right = [] }
 
     H : HoleIn w g (under f x.way) L.child x.free
-    H = record { nodes = x.held.nodes; arena = x.held.arena; stand = zoom-in f x.way L.child x.free (subst (λ (v : Tree (suc (suc h))). Hole x.held.nodes x.way v x.free) L.filled x.held.stand); many = x.held.many; told = x.held.told }
+    H = record { nodes = x.held.nodes; arena = x.held.arena; stand = zoom_in f x.way L.child x.free (subst (λ (v : Tree (suc (suc h))). Hole x.held.nodes x.way v x.free) L.filled x.held.stand); many = x.held.many; told = x.held.told }
 
     count_is : length x.tree.rest ≡ suc (length L.lows)
     count_is = ap (λ (v : Tree (suc (suc h))). length v.rest) L.filled ∙ length_fill x.tree.no (L.item ∷ L.lows) L.child [] ∙ omega arith
@@ -226,7 +226,7 @@ module _ {w : List ℕ} {g : Rest} {node h : ℕ} {t : Grown} (x : Descending le
       by n e (y ∷ r) c free H en l q =
           let f : Frame (Tree (suc h)) = record { no = n; left = []; right = y ∷ r } in
           let T : Tree (suc (suc h)) = record { no = n; first = e; rest = y ∷ r } in
-          let K : HoleIn w g (under f c) e free = record { nodes = H.nodes; arena = H.arena; stand = zoom-in f c e free H.stand; many = H.many; told = H.told } in
+          let K : HoleIn w g (under f c) e free = record { nodes = H.nodes; arena = H.arena; stand = zoom_in f c e free H.stand; many = H.many; told = H.told } in
           let u : e.no ≡ a.0 = sym (rw (← en) at ea ∙ own_edge n [] (y ∷ r) c e free K) in
           let v : y.edge.no ≡ b.0 = sym (rw (← en) at eb ∙ right_sibling n y r c e free K) in
           record {

@@ -15,7 +15,7 @@ use Rattle.internal.specs.Inner.{Poppable}
 use Rattle.standing.specs.Heads.{Rest, HoleIn, ClosedIn}
 use Rattle.fix.specs.Repairs.{Emptied}
 use Rattle.fix.proofs.Holes.{hole_header, hole_long, node_within, node_long}
-use Rattle.fix.proofs.Emptying.{PopCall, emptied-in, emptied_popped}
+use Rattle.fix.proofs.Emptying.{PopCall, emptied_in, emptied_popped}
 use Rattle.border.specs.Borders.{Some, Rooted, Topped, tops}
 
 -- a tree with a root, from any closed one that has a level
@@ -75,7 +75,7 @@ module _ {w : List ℕ} {g : Rest} {t : Grown} (x : Rooted w g t) where
       go (y ∷ l) e = absurd (omega arith)
 
   pub goes_in : length x.tree.rest ≡ 0 → 0 < header w height_word → Has w (λ h ns. Poppable h ns)
-  goes_in e l = emptied-in (emptied e) l
+  goes_in e l = emptied_in (emptied e) l
 
   pub goes : {w' : List ℕ} → length x.tree.rest ≡ 0 → 0 < header w height_word → PopCall w w' → (t' : Grown) × (y : Rooted w' g t') × (suc y.height ≡ x.height) × (tops t' ≡ tops t)
   goes {w'} e l call = go x.height x.tree x.free (emptied e).bare (emptied_popped (emptied e) l call) x.same (omega (arith, height_word_is))

@@ -1,5 +1,6 @@
 // The repair of a tree's border (fix.rs): empty tops are dropped, and down the right or the left side each child is merged or stocked.
 #![tactic(auto)]
+
 ghost use Rattle.std.specs.Prelude.{◌≡◌, ℕ, suc};
 ghost use Rattle.model.specs.Insert.{left, right};
 ghost use Rattle.model.specs.Nodes.{Grown};

@@ -1,5 +1,6 @@
 // Moves of words in the columns of nodes: one function for keys, values and edges.
 #![tactic(auto)]
+
 ghost use Rattle.std.specs.Prelude.{◌≡◌, ◌≢◌, List, [], ◌∷◌, ◌++◌, ℕ, ◌+◌, ◌<◌, ◌≤◌, length, take, drop, get_or, set};
 ghost use Rattle.model.specs.Lists.{insert_at};
 ghost use Rattle.model.specs.Layout.{node_size, most};

@@ -66,11 +66,11 @@ kind_live (suc h) = omega arith
 
 module _ {w hd : List ℕ} {ns : List NodeVal} (h : ℕ) (t : Tree (suc h)) (a : Arena w hd ns) (s : Stands ns (suc h) t) (L : Links ns) (few : length ns ≤ largest_count) (once : (m : ℕ) → has m (suc h) t ≤ 1) (inside : (m : ℕ) → 1 ≤ has m (suc h) t → m < length ns)
     (x : Right ns h t.first) (y : AllIn (Right ns h) t.rest) where
-  in-here : t.no < length ns
-  in-here = inside t.no (omega (arith, one_self t.no))
+  in_here : t.no < length ns
+  in_here = inside t.no (omega (arith, one_self t.no))
 
   here : Shaped ns t.no
-  here = shaped ns L t.no (root_no h t.first) (numbered h t.rest) in-here h s.0
+  here = shaped ns L t.no (root_no h t.first) (numbered h t.rest) in_here h s.0
 
   pub node_due : Shaped ns t.no × (due ns t.no < 18446744073709551616)
   node_due = (here, omega (arith, due_right ns h t s x y, flat_few ns (arena_small ns a) few (suc h) t s once inside))
@@ -85,7 +85,7 @@ module _ {w hd : List ℕ} {ns : List NodeVal} (h : ℕ) (t : Tree (suc h)) (a :
     same = put_kept ns L t.no (due ns t.no) live;
     others = λ m u. put_other ns t.no (due ns t.no) m (λ e. omega (arith, one_same t.no m (sym e)));
     right = (
-      put_same ns t.no (due ns t.no) in-here ∙ due_right ns h t s x y,
+      put_same ns t.no (due ns t.no) in_here ∙ due_right ns h t s x y,
       right_same ns (recount ns t.no) h t.first (λ m u. put_other ns t.no (due ns t.no) m (λ e. omega (arith, once m, one_same t.no m (sym e)))) x,
       items_same ns (recount ns t.no) h (right_same ns (recount ns t.no) h) t.rest (λ m u. put_other ns t.no (due ns t.no) m (λ e. omega (arith, once m, one_same t.no m (sym e)))) y,
     );
@@ -97,8 +97,8 @@ kids_has : (m h : ℕ) (r : List (Item (Tree h))) → has_all m h (map (λ (x : 
 kids_has m h [] = refl
 kids_has m h (x ∷ r) = ap (λ (k : ℕ). has m h x.edge + k) (kids_has m h r)
 
-pub in-kids : (m h : ℕ) (t : Tree (suc h)) → has m (suc h) t ≡ one t.no m + has_all m h (kids h t)
-in-kids m h t = omega (arith, kids_has m h t.rest)
+pub in_kids : (m h : ℕ) (t : Tree (suc h)) → has m (suc h) t ≡ one t.no m + has_all m h (kids h t)
+in_kids m h t = omega (arith, kids_has m h t.rest)
 
 module _ (h : ℕ) (P : Tree h → Type 0) where
   all_kids : (r : List (Item (Tree h))) → AllIn P r → All P (map (λ (x : Item (Tree h)). x.edge) r)
@@ -151,11 +151,11 @@ module _ {w hd : List ℕ} {ns : List NodeVal} {n h : ℕ} (K : TreeIn ns n (suc
   pairs_here : length (nth ns n).pairs ≡ length T.rest
   pairs_here = ap (λ (q : ℕ). length (nth ns q).pairs) (sym K.node_is) ∙ ap (λ (b : Body). length b.pairs) K.stands.0 ∙ length-map (numbered (suc h) T.rest) (λ (x : Item ℕ). x.pair) ∙ length-map {B = Item ℕ} T.rest (λ (x : Item (Tree (suc h))). record { pair = x.pair; edge = x.edge.no })
 
-  n-in : n < length ns
-  n-in = subst (λ (q : ℕ). q < length ns) K.node_is (K.within T.no (omega (arith, one_self T.no)))
+  n_in : n < length ns
+  n_in = subst (λ (q : ℕ). q < length ns) K.node_is (K.within T.no (omega (arith, one_self T.no)))
 
   pub here_known : Within w n × (word_at w n length_word ≡ length K.tree.rest) × (length K.tree.rest ≤ most)
-  here_known = (within a n n-in, len_is a n n-in ∙ pairs_here, omega (arith, pairs_here, arena_small ns a n))
+  here_known = (within a n n_in, len_is a n n_in ∙ pairs_here, omega (arith, pairs_here, arena_small ns a n))
 
   kids_stand : All (Stands ns (suc h)) (kids (suc h) T)
   kids_stand = (K.stands.1, all_kids (suc h) (Stands ns (suc h)) T.rest K.stands.2)
@@ -164,11 +164,11 @@ module _ {w hd : List ℕ} {ns : List NodeVal} {n h : ℕ} (K : TreeIn ns n (suc
     same_edges : (nth u.nodes n).edges ≡ map (λ (t : Tree (suc h)). t.no) (kids (suc h) T)
     same_edges = ap (λ (b : Body). b.edges) (u.same.bodies n refl) ∙ ap (λ (q : ℕ). (nth ns q).edges) (sym K.node_is) ∙ ap (λ (b : Body). b.edges) K.stands.0 ∙ ap (λ (l : List ℕ). T.first.no ∷ l) (edges_kids h T.rest)
 
-    in-now : n < length u.nodes
-    in-now = subst (λ (k : ℕ). n < k) (sym u.same.long) n-in
+    in_now : n < length u.nodes
+    in_now = subst (λ (k : ℕ). n < k) (sym u.same.long) n_in
 
     pub there : Within w₁ n
-    there = within u.arena n in-now
+    there = within u.arena n in_now
 
     -- the next tree
     record Next (c : ℕ) : Type 0 where
@@ -179,7 +179,7 @@ module _ {w hd : List ℕ} {ns : List NodeVal} {n h : ℕ} (K : TreeIn ns n (suc
       is : held.tree ≡ first
 
     in_split : (t : Tree (suc h)) (ts : List (Tree (suc h))) → u.done ++ (t ∷ ts) ≡ kids (suc h) T → (m : ℕ) → has m (suc (suc h)) T ≡ one T.no m + (has_all m (suc h) u.done + (has m (suc h) t + has_all m (suc h) ts))
-    in_split t ts z m = in-kids m (suc h) T ∙ ap (λ (l : List (Tree (suc h))). one T.no m + has_all m (suc h) l) (sym z) ∙ ap (λ (k : ℕ). one T.no m + k) (has_append m (suc h) u.done (t ∷ ts))
+    in_split t ts z m = in_kids m (suc h) T ∙ ap (λ (l : List (Tree (suc h))). one T.no m + has_all m (suc h) l) (sym z) ∙ ap (λ (k : ℕ). one T.no m + k) (has_append m (suc h) u.done (t ∷ ts))
 
     next : i < length T.rest + 1 → (c : ℕ) → c ≡ word_at w₁ n (edges_word + i) → Next c
     next l c e = go u.todo u.all
@@ -187,7 +187,7 @@ module _ {w hd : List ℕ} {ns : List NodeVal} {n h : ℕ} (K : TreeIn ns n (suc
         go : (ts : List (Tree (suc h))) → u.done ++ ts ≡ kids (suc h) T → Next c
         go [] z = absurd (omega (arith, u.many, many_kids, ap length z, length-append u.done []))
         go (t ∷ ts) z =
-            let f : word_at w₁ n (edges_word + i) ≡ t.no = edge_is u.arena n in-now i (subst (λ (es : List ℕ). i < length es) (sym same_edges) (omega (arith, l, many_kids, length-map (kids (suc h) T) (λ (t : Tree (suc h)). t.no)))) ∙ ap₂ (λ (es : List ℕ) (j : ℕ). get_or es j 0) (same_edges ∙ ap (map (λ (t : Tree (suc h)). t.no)) (sym z)) (sym u.many) ∙ number_at h u.done t ts in
+            let f : word_at w₁ n (edges_word + i) ≡ t.no = edge_is u.arena n in_now i (subst (λ (es : List ℕ). i < length es) (sym same_edges) (omega (arith, l, many_kids, length-map (kids (suc h) T) (λ (t : Tree (suc h)). t.no)))) ∙ ap₂ (λ (es : List ℕ) (j : ℕ). get_or es j 0) (same_edges ∙ ap (map (λ (t : Tree (suc h)). t.no)) (sym z)) (sym u.many) ∙ number_at h u.done t ts in
             record {
               first = t;
               later = ts;
@@ -252,18 +252,18 @@ module _ {w hd : List ℕ} {ns : List NodeVal} {n : ℕ} (a : Arena w hd ns) whe
   leaf_done (suc h) e K call = absurd (omega arith)
 
   module _ (K : TreeIn ns n 0) where
-    leaf-in : n < length ns
-    leaf-in = subst (λ (q : ℕ). q < length ns) K.node_is (K.within K.tree.no (omega (arith, one_self K.tree.no)))
+    leaf_in : n < length ns
+    leaf_in = subst (λ (q : ℕ). q < length ns) K.node_is (K.within K.tree.no (omega (arith, one_self K.tree.no)))
 
     pub leaf_known : Within w n × (n < length ns)
-    leaf_known = (within a n leaf-in, leaf-in)
+    leaf_known = (within a n leaf_in, leaf_in)
 
     -- it has no edges: its count is how many pairs it has
     pub leaf_word : word_at w n length_word ≡ due ns n
     leaf_word =
         let e : (nth ns n).edges ≡ [] = ap (λ (q : ℕ). (nth ns q).edges) (sym K.node_is) ∙ ap (λ (b : Body). b.edges) K.stands.0 in
         let t : totals ns (nth ns n).edges ≡ 0 = ap (totals ns) e in
-        omega (arith, len_is a n leaf-in)
+        omega (arith, len_is a n leaf_in)
 
     pub leaf_counted : (w' : List ℕ) → Arena w' hd (recount ns n) → CountedIn w' hd ns 0 K.tree
     leaf_counted w' b = node_right 0 K.tree a K.stands K.links K.few K.once K.within tt (gaps_right ns K.tree.rest) w' (subst (λ (q : ℕ). Arena w' hd (recount ns q)) (sym K.node_is) b)
@@ -301,7 +301,7 @@ module _ {w hd : List ℕ} {ns : List NodeVal} {n : ℕ} (a : Arena w hd ns) whe
     at_done : {w₂ : List ℕ} → SetCall w₁ w₂ n → CountedIn w₂ hd ns (suc h) K.tree
     at_done {w₂} call =
         let C = node_right (suc h) K.tree E.arena stands_now E.same.links few_now K.once within_now E.right.0 rest_right w₂ (subst (λ (q : ℕ). Arena w₂ hd (recount E.nodes q)) (sym K.node_is) (call hd E.nodes at_due.0 E.arena)) in
-        record { nodes = C.nodes; arena = C.arena; same = kept_trans E.same C.same; others = λ m z. C.others m z ∙ E.others m (omega (arith, in-kids m (suc h) K.tree)); right = C.right }
+        record { nodes = C.nodes; arena = C.arena; same = kept_trans E.same C.same; others = λ m z. C.others m z ∙ E.others m (omega (arith, in_kids m (suc h) K.tree)); right = C.right }
 
   pub inner_due : (b : ℕ) → (b ≡ 0 → ⊥) → TreeIn ns n b → {w₁ : List ℕ} → EdgesCall w w₁ n (b - 1) → Has w₁ (λ hd ns. Shaped ns n × (due ns n < 18446744073709551616))
   inner_due zero z K call = absurd (z refl)

@@ -1,5 +1,6 @@
 // The counts of a whole tree, whatever they were before: from the leaves up, each node's from those just below it.
 #![tactic(auto)]
+
 ghost use Rattle.std.specs.Prelude.{List, ℕ, suc};
 ghost use Rattle.model.specs.Layout.{NodeVal, Arena};
 ghost use Rattle.node.specs.Reading.{Has};

@@ -11,7 +11,7 @@ use Rattle.model.specs.declared.Picked.{Picked}
 use Rattle.model.specs.declared.Range.{Range}
 use Rattle.model.specs.Answer.{numbers_of}
 use Rattle.model.specs.State.{State, Reply}
-use Rattle.model.specs.Promise.{Call, Format, Batch, Restore, Listing, Rank, AtRank, Upgrade, Load, bad_arena, bad_range_of, Walk, Join, Cut}
+use Rattle.model.specs.Promise.{Call, Format, Batch, Restore, Rank, AtRank, Upgrade, Load, bad_arena, bad_range_of, Walk, Join, Cut}
 use Rattle.model.specs.Map.{rank, count_of}
 use Rattle.model.proofs.Unique.{one_end, one_call, one_format, one_listing, one_tell, one_at, one_batch, one_restore, one_load, one_walk, one_join, one_cut}
 use Rattle.model.proofs.Upgrades.{one_upgrade}

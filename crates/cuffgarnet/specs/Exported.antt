@@ -1,6 +1,6 @@
 -- What the exported calls hand out in plain words: an answer's number, its second word, and a range asked for by kinds of bound.
 -- Assumes nothing.
-use Rattle.std.specs.Prelude.{ℕ, zero, suc, ◌≡◌, Bool, true, false, cond, List, [], ◌∷◌, eqb}
+use Rattle.std.specs.Prelude.{ℕ, zero, suc, ◌≡◌, Bool, false, cond, List, [], ◌∷◌, eqb}
 use Rattle.model.specs.declared.Answer.{Answer}
 use Rattle.model.specs.declared.Listed.{Listed}
 use Rattle.model.specs.declared.Counted.{Counted}

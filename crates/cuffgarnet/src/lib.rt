@@ -1,5 +1,7 @@
 // The library that Rust and C link: the public calls under C's names, u64 throughout, a slice as its pointer and its length. A call returns
 // its answer's number; what comes with the number is written through a pointer to one word.
+#![tactic(auto)]
+
 ghost use Rattle.std.specs.Prelude.{◌≡◌, ℕ, false, List};
 ghost use Rattle.model.specs.Public.{Promised};
 ghost use Rattle.model.specs.Public as promise;

@@ -65,16 +65,16 @@ ahead_in : (w : Whole) (ps : List Pair) (p : Spot) → Ahead w ps p → InTree w
 ahead_in w ps (gap c) y = tt
 ahead_in w ps (at c n l e x r) y = y.0
 
-behind-in : (w : Whole) (ps : List Pair) (p : Spot) → Behind w ps p → InTree w p
-behind-in w ps (gap c) y = tt
-behind-in w ps (at c n l e x r) y = y.0
+behind_in : (w : Whole) (ps : List Pair) (p : Spot) → Behind w ps p → InTree w p
+behind_in w ps (gap c) y = tt
+behind_in w ps (at c n l e x r) y = y.0
 
 module _ {s : State} {d : Handle} (y : EdgeAt s d) where
-  pub next-in : InTree s.whole (next_kv y.way)
-  next-in = subst (λ (v : Whole). InTree v (next_kv y.way)) y.whole (ahead_in _ (after y.way) (next_kv y.way) (next_kv_lem y.way))
+  pub next_in : InTree s.whole (next_kv y.way)
+  next_in = subst (λ (v : Whole). InTree v (next_kv y.way)) y.whole (ahead_in _ (after y.way) (next_kv y.way) (next_kv_lem y.way))
 
   pub back_in : InTree s.whole (back_kv y.way)
-  back_in = subst (λ (v : Whole). InTree v (back_kv y.way)) y.whole (behind-in _ (before y.way) (back_kv y.way) (back_kv_lem y.way))
+  back_in = subst (λ (v : Whole). InTree v (back_kv y.way)) y.whole (behind_in _ (before y.way) (back_kv y.way) (back_kv_lem y.way))
 
 -- ---- the leaf edges where the steps begin
 

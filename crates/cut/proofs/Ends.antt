@@ -19,7 +19,7 @@ use Rattle.model.specs.WellFormed.{WellFormed}
 use Rattle.model.specs.Promise.{Holds, AnyCount, Exceeds, Cut}
 use Rattle.model.proofs.Backward.{backward}
 use Rattle.model.proofs.Header.{header_is}
-use Rattle.model.proofs.Unique.{one_count, in-state}
+use Rattle.model.proofs.Unique.{one_count, in_state}
 use Rattle.loading.proofs.Parting.{path_list}
 use Rattle.cut.specs.Moves.{Upper}
 
@@ -60,7 +60,7 @@ module _ (k : ℕ) (w v : List ℕ) where
               inr (
                 (λ b. b (backward w s o)),
                 inr (
-                  (λ x. let y = in-state (λ (t : State). Exceeds (part_off k t) v) o x in omega (arith, y.lacks, one_count y.sized z, ap nodes_for e, room)),
+                  (λ x. let y = in_state (λ (t : State). Exceeds (part_off k t) v) o x in omega (arith, y.lacks, one_count y.sized z, ap nodes_for e, room)),
                   record { state = s; holds = o; count = n; sized = z; room = subst (λ (m : ℕ). nodes_for m ≤ n) e room; left = h.words; moved = f; said = refl },
                 ),
               ),

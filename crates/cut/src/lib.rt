@@ -1,5 +1,6 @@
 // The upper part cut off (split.rs): the pairs from a key on go in order into a second slice, and leave the first arena.
 #![tactic(auto)]
+
 ghost use Rattle.std.specs.Prelude.{◌≡◌, List};
 ghost use Rattle.model.specs.Tree.{Pair};
 ghost use Rattle.model.specs.State.{State};

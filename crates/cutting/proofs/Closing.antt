@@ -20,8 +20,8 @@ use Rattle.standing.proofs.Frames.{stands_kept}
 use Rattle.standing.proofs.Leads.{one_self}
 use Rattle.totals.specs.Settling.{Part}
 use Rattle.cutting.specs.Sweep.{goes, freed, swept}
-use Rattle.cutting.proofs.Sweeps.{swept_long, swept_stays, swept_goes, freed_rises, freed-in, freed_past, freed_chain}
-use Rattle.cutting.proofs.Members.{edges-in}
+use Rattle.cutting.proofs.Sweeps.{swept_long, swept_stays, swept_goes, freed_rises, freed_in, freed_past, freed_chain}
+use Rattle.cutting.proofs.Members.{edges_in}
 
 module _ (k : ℕ) (ns : List NodeVal) (u : Whole) (free : List ℕ) (tall : 1 ≤ u.height) (H : Part ns (top {h = u.height}) u.root free) (T : Totals ns) (stays : (m : ℕ) → 1 ≤ has_whole m u → goes k (nth ns m) ≡ false)
     (leaves : (m : ℕ) → m < length ns → has_whole m u ≡ 0 → goes k (nth ns m) ≡ true) where
@@ -32,7 +32,7 @@ module _ (k : ℕ) (ns : List NodeVal) (u : Whole) (free : List ℕ) (tall : 1 �
   fs = freed k 0 ns
 
   none_in : (m : ℕ) → 1 ≤ has_whole m u → times m fs ≡ 0
-  none_in m l = freed-in k ns m (H.within m (omega arith)) ∙ (rw (stays m l) refl)
+  none_in m l = freed_in k ns m (H.within m (omega arith)) ∙ (rw (stays m l) refl)
 
   -- every node is of the tree or free
   pub swept_once : (m : ℕ) → m < length ns → has_whole m u + times m (freed k 0 ns) ≡ 1
@@ -40,7 +40,7 @@ module _ (k : ℕ) (ns : List NodeVal) (u : Whole) (free : List ℕ) (tall : 1 �
     where
       go : Dec (0 < has_whole m u) → has_whole m u + times m (freed k 0 ns) ≡ 1
       go (yes z) = omega (arith, none_in m z, H.once m)
-      go (no d) = omega (arith, freed-in k ns m l, ap {B = ℕ} (λ (b : Bool). cond b 1 0) (leaves m l (omega arith)))
+      go (no d) = omega (arith, freed_in k ns m l, ap {B = ℕ} (λ (b : Bool). cond b 1 0) (leaves m l (omega arith)))
 
   swept_past : (m : ℕ) → length ns ≤ m → has_whole m u + times m (freed k 0 ns) ≡ 0
   swept_past m l = go (dec_lt 0 (has_whole m u))
@@ -68,7 +68,7 @@ module _ (k : ℕ) (ns : List NodeVal) (u : Whole) (free : List ℕ) (tall : 1 �
       off false e z = absurd (omega arith)
 
       go : Dec (m < length ns) → nth ms m ≡ free_val (nth ms m).parent
-      go (yes i) = swept_goes k 0 ns m i (off (goes k (nth ns m)) refl (omega (arith, freed-in k ns m i)))
+      go (yes i) = swept_goes k 0 ns m i (off (goes k (nth ns m)) refl (omega (arith, freed_in k ns m i)))
       go (no d) = absurd (omega (arith, freed_past k ns m (omega arith)))
 
   links : Links ms
@@ -80,7 +80,7 @@ module _ (k : ℕ) (ns : List NodeVal) (u : Whole) (free : List ℕ) (tall : 1 �
           let e : (nth ms q).edges ≡ (nth ns q).edges = ap (λ (v : NodeVal). v.edges) (same q z) in
           let j : i < length (nth ns q).edges = subst (λ (es : List ℕ). i < length es) e l in
           let c = get_or (nth ns q).edges i 0 in
-          let s : nth ms c ≡ nth ns c = same c (none_in c (edges-in ns q u.height u.root H.tree (in_tree q o z) i j)) in
+          let s : nth ms c ≡ nth ns c = same c (none_in c (edges_in ns q u.height u.root H.tree (in_tree q o z) i j)) in
           let C = H.links q i j in
           subst (Child ms q i) (sym (ap (λ (es : List ℕ). get_or es i 0) e)) (record {
             within = subst (λ (n : ℕ). c < n) (sym (swept_long k 0 ns)) C.within;

@@ -21,7 +21,7 @@ use Rattle.model.proofs.Sizes.{FullCtx}
 use Rattle.store.specs.Links.{Body, body_of}
 use Rattle.standing.specs.Standing.{numbered, content, Stands, Way}
 use Rattle.standing.proofs.Leads.{one_self}
-use Rattle.loading.proofs.Numbers.{numbers-in, numbers_has}
+use Rattle.loading.proofs.Numbers.{numbers_in_lem, numbers_has}
 use Rattle.loading.proofs.Parting.{AtLeast}
 use Rattle.cutting.specs.Sweep.{reached, goes}
 
@@ -63,12 +63,12 @@ module _ (ns : List NodeVal) (q : ℕ) where
   edges_items h f [] a u i l = absurd (omega arith)
   edges_items h f (x ∷ r) a u i l = either (has q h x.edge) (has_in (has q h) r) _ u (λ v. omega (arith, f x.edge a.0 v i l)) (λ v. omega (arith, edges_items h f r a.1 v i l))
 
-  pub edges-in : (h : ℕ) (t : Tree h) → Stands ns h t → 1 ≤ has q h t → (i : ℕ) → i < length (nth ns q).edges → 1 ≤ has (get_or (nth ns q).edges i 0) h t
-  edges-in zero t s u i l = absurd (omega arith)
-  edges-in (suc h) t s u i l =
+  pub edges_in : (h : ℕ) (t : Tree h) → Stands ns h t → 1 ≤ has q h t → (i : ℕ) → i < length (nth ns q).edges → 1 ≤ has (get_or (nth ns q).edges i 0) h t
+  edges_in zero t s u i l = absurd (omega arith)
+  edges_in (suc h) t s u i l =
       either (one t.no q) (has q h t.first + has_in (has q h) t.rest) _ u
       (λ v. own_edges h t (ap (λ (n : ℕ). body_of (nth ns n)) (sym (same_of t.no q v)) ∙ s.0) i l)
-      (λ v. either (has q h t.first) (has_in (has q h) t.rest) _ v (λ z. omega (arith, edges-in h t.first s.1 z i l)) (λ z. omega (arith, edges_items h (edges-in h) t.rest s.2 z i l)))
+      (λ v. either (has q h t.first) (has_in (has q h) t.rest) _ v (λ z. omega (arith, edges_in h t.first s.1 z i l)) (λ z. omega (arith, edges_items h (edges_in h) t.rest s.2 z i l)))
 
   -- ---- what holds of a tree and of all below each of its nodes, the node q has
 
@@ -158,6 +158,6 @@ module _ (k : ℕ) (ns : List NodeVal) (q : ℕ) where
   pub way_goes : {h : ℕ} (c : Ctx h) (x : ℕ) → Way ns c x → FullCtx c → AtLeast k (after c) → 1 ≤ times q (dropped c) → goes k (nth ns q) ≡ true
   way_goes top x w f a u = absurd (omega arith)
   way_goes (under {h = h} g c) x w f a u =
-      either (has_in (has q h) g.right) (times q (dropped c)) _ (omega (arith, times_append q (numbers_in (numbers h) g.right) (dropped c), numbers-in q (numbers h) (has q h) (numbers_has q h) g.right))
+      either (has_in (has q h) g.right) (times q (dropped c)) _ (omega (arith, times_append q (numbers_in (numbers h) g.right) (dropped c), numbers_in_lem q (numbers h) (has q h) (numbers_has q h) g.right))
       (items_go h g.right w.2 (all_left _ (flats (flat h) g.right) (after c) a) f.2)
       (way_goes c g.no w.3 f.3 (all_right _ (flats (flat h) g.right) (after c) a))

@@ -137,8 +137,8 @@ module _ (k : ℕ) where
       go true z = omega (arith, one_other i q (λ e. omega arith))
       go false z = z
 
-  pub freed-in : (ns : List NodeVal) (m : ℕ) → m < length ns → times m (freed k 0 ns) ≡ cond (goes k (nth ns m)) 1 0
-  freed-in ns m l = let z : 0 + m ≡ m = omega arith in rw z at (freed_count 0 ns m l)
+  pub freed_in : (ns : List NodeVal) (m : ℕ) → m < length ns → times m (freed k 0 ns) ≡ cond (goes k (nth ns m)) 1 0
+  freed_in ns m l = let z : 0 + m ≡ m = omega arith in rw z at (freed_count 0 ns m l)
 
   pub freed_past : (ns : List NodeVal) (m : ℕ) → length ns ≤ m → times m (freed k 0 ns) ≡ 0
   freed_past ns m l = freed_out 0 ns m (omega arith)

@@ -309,9 +309,9 @@ module _ (n : ℕ) (c : Cursor) (k : ℕ) where
 
 -- ---- batch
 
-in-turn : (os : List Order) {w : List ℕ} {s : State} → Holds w s → InTurn os w (words_of (on.after_all os s)) (on.answers os s)
-in-turn [] h = (sym h.words, refl)
-in-turn (o ∷ os) {w} {s} h =
+in_turn : (os : List Order) {w : List ℕ} {s : State} → Holds w s → InTurn os w (words_of (on.after_all os s)) (on.answers os s)
+in_turn [] h = (sym h.words, refl)
+in_turn (o ∷ os) {w} {s} h =
     let d = on.order o s in
     record {
       between = words_of d.state;
@@ -321,7 +321,7 @@ in-turn (o ∷ os) {w} {s} h =
       formed = backward _ _ (kept_words (order_sound o s h.sound) refl);
       refused = order_refuses o s h.sound;
       written = refl;
-      rest = in-turn os (kept_words (order_sound o s h.sound) refl);
+      rest = in_turn os (kept_words (order_sound o s h.sound) refl);
     }
 
 pub batch_lawful : (b a : List ℕ) → Lawful (call.batch b a)
@@ -347,7 +347,7 @@ batch_lawful b a = record {
           long_same = g.long_same;
           says = x.said;
           holds = g.holds;
-          leaves = (z, rw (x.left, x.written) (in-turn os x.holds));
+          leaves = (z, rw (x.left, x.written) (in_turn os x.holds));
           refused_same = λ y. both_ways y (ap refusal x.said);
         }
 

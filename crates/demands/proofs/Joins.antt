@@ -87,8 +87,8 @@ joins {w} {v} {w'} j = accepted (call.join_first v j.third) (join_first v j.thir
 second_formed : {w v w' : List ℕ} → JoinsTo w v w' → WellFormed v
 second_formed {w} {v} {w'} j = (accepted (call.join_second w j.third) (join_second w j.third) v j.second_after (w', j.third_after) Done j.done refl).was_formed refl
 
-pub three-in-order : ThreeInOrder
-three-in-order a b c ab ab-c bc a-bc j₁ j₂ j₃ j₄ =
+pub three_in_order : ThreeInOrder
+three_in_order a b c ab ab-c bc a-bc j₁ j₂ j₃ j₄ =
     let x = joins j₁ in
     let y = joins j₂ in
     let z = joins j₃ in

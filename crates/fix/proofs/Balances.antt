@@ -25,7 +25,7 @@ use Rattle.node.proofs.Reading.{within, len_is}
 use Rattle.store.specs.Links.{return_head}
 use Rattle.balance.specs.Moves.{merge_nodes, MergeReady, Mergeable, move_nodes, StealReady}
 use Rattle.standing.specs.Standing.{root_of, Beside}
-use Rattle.shrinking.proofs.Steps.{left_in, right-in, left_long, right_long, merge_ready, lends_left, lends_right, merge_long, merge_step, move_long, move_step, beside_low, beside_high, hole_low, hole_high}
+use Rattle.shrinking.proofs.Steps.{left_in, right_in, left_long, right_long, merge_ready, lends_left, lends_right, merge_long, merge_step, move_long, move_step, beside_low, beside_high, hole_low, hole_high}
 use Rattle.fix.specs.declared.BalancingContext.{BalancingContext}
 use Rattle.fix.specs.declared.ParentKv.TheVariants.{Left, Right, Root}
 use Rattle.standing.specs.Heads.{Rest, head_words, top_of, HoleIn, ClosedIn}
@@ -34,7 +34,7 @@ use Rattle.balance.specs.Moves.{Shaped}
 use Rattle.standing.specs.Standing.{Hole}
 use Rattle.standing.specs.Totals.{due, TotalsBut, recount}
 use Rattle.standing.proofs.Leads.{one_self}
-use Rattle.standing.proofs.Scenes.{zoom-in, zoom_out}
+use Rattle.standing.proofs.Scenes.{zoom_in, zoom_out}
 use Rattle.totals.specs.Settling.{above, ample, Settles}
 use Rattle.totals.proofs.Settling.{top_above, due_here, part_few, right_hole, right_kept, hole_part}
 use Rattle.totals.proofs.Siblings.{SetCall, SettleCall, merge_total, merge_told, move_total, move_told, child_told, lower_low, lower_in, lower_arena, upper_settles, both_done}
@@ -89,7 +89,7 @@ module _ {w : List ℕ} {g : Rest} {b : BalancingContext} (q : Neighbours w g b)
   in_left = left_in q.ctx q.no q.lows q.twin q.highs q.free T
 
   in_right : q.twin.right.no < length ns
-  in_right = right-in q.ctx q.no q.lows q.twin q.highs q.free T
+  in_right = right_in q.ctx q.no q.lows q.twin q.highs q.free T
 
   long_left : length (nth ns q.twin.left.no).pairs ≡ length q.twin.left.rest
   long_left = left_long q.ctx q.no q.lows q.twin q.highs q.free T
@@ -151,7 +151,7 @@ module _ {w : List ℕ} {g : Rest} {b : BalancingContext} (q : Neighbours w g b)
     not_freed = omega (arith, T.once q.no, one_self q.no)
 
     merged_hole : Hole merged (under frame q.ctx) (join q.twin) freed
-    merged_hole = zoom-in frame q.ctx (join q.twin) freed (merge_step q.ctx q.no q.lows q.twin q.highs q.free T hd refl refl)
+    merged_hole = zoom_in frame q.ctx (join q.twin) freed (merge_step q.ctx q.no q.lows q.twin q.highs q.free T hd refl refl)
 
     merged_told : TotalsBut (q.twin.left.no ∷ q.no ∷ []) merged
     merged_told = merge_told q.ctx q.no q.lows q.twin q.highs q.free T q.held.told hd refl refl
@@ -195,8 +195,8 @@ module _ {w : List ℕ} {g : Rest} {b : BalancingContext} (q : Neighbours w g b)
         go left l r = lends_left q.ctx q.no q.lows q.twin q.highs q.free T k some l r
         go right l r = lends_right q.ctx q.no q.lows q.twin q.highs q.free T k some l r
 
-    pub steal-in : Has w (λ h ns. Steals s b k ns)
-    steal-in = record { head = hd; nodes = ns; arena = q.held.arena; holds = steal_ready }
+    pub steal_in : Has w (λ h ns. Steals s b k ns)
+    steal_in = record { head = hd; nodes = ns; arena = q.held.arena; holds = steal_ready }
 
     place : staying s k q.twin < length (join q.twin).rest
     place = steal_place k q.twin s lent
@@ -328,8 +328,8 @@ module _ {s : Side} {w : List ℕ} {g : Rest} {t : Grown} {b : BalancingContext}
         go left z = (omega (arith, many), omega arith)
         go right z = (omega (arith, many), omega arith)
 
-    pub lend-in : Stealing s w b k
-    lend-in = stealing B s k (omega arith) can_lend.0 can_lend.1
+    pub lend_in : Stealing s w b k
+    lend_in = stealing B s k (omega arith) can_lend.0 can_lend.1
 
     pub lend_held : {w' : List ℕ} → StealCall s w w' b k → ClosedIn w' g t
     lend_held {w'} call =

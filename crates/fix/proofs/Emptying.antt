@@ -38,8 +38,8 @@ module _ {w : List ℕ} {g : Rest} {h : ℕ} (t : Tree (suc (suc h))) (free : Li
   ready : PopReady hd H.nodes free
   ready = pop_ready t free H.stand bare hd refl refl refl (omega arith) (free_few top t free H)
 
-  inner-in : Has w (λ h ns. Poppable h ns)
-  inner-in = record { head = hd; nodes = H.nodes; arena = H.arena; holds = (free, ready) }
+  inner_in : Has w (λ h ns. Poppable h ns)
+  inner_in = record { head = hd; nodes = H.nodes; arena = H.arena; holds = (free, ready) }
 
   head_is : pop_head hd free H.nodes ≡ head_words g t.first.no h (returned t.no free)
   head_is =
@@ -69,12 +69,12 @@ module _ {w : List ℕ} {g : Rest} {t : Grown} (e : Emptied w g t) where
       go zero x free H q z = subst (ClosedIn w g) q H
       go (suc h) x free H q z = absurd (omega arith)
 
-  pub emptied-in : 0 < header w height_word → Has w (λ h ns. Poppable h ns)
-  emptied-in l = go e.height e.tree e.free e.held e.bare (omega (arith, height_is))
+  pub emptied_in : 0 < header w height_word → Has w (λ h ns. Poppable h ns)
+  emptied_in l = go e.height e.tree e.free e.held e.bare (omega (arith, height_is))
     where
       go : (h : ℕ) (x : Tree (suc h)) (free : List ℕ) → HoleIn w g (top {h = suc h}) x free → x.rest ≡ [] → 0 < h → Has w (λ h ns. Poppable h ns)
       go zero x free H b l = absurd (omega arith)
-      go (suc h) x free H b l = inner-in x free H b
+      go (suc h) x free H b l = inner_in x free H b
 
   pub emptied_popped : 0 < header w height_word → {w' : List ℕ} → PopCall w w' → ClosedIn w' g t
   emptied_popped l {w'} call = go e.height e.tree e.free e.held e.bare e.same (omega (arith, height_is))

@@ -1,5 +1,6 @@
 // The repair of a node that has lost a pair, through its parent and upwards (fix.rs, and choose_parent_kv of node.rs).
 #![tactic(auto)]
+
 ghost use Rattle.std.specs.Prelude.{◌≡◌, ◌+◌, ◌≤◌, leb};
 ghost use Rattle.model.specs.Layout.{most, word_at, length_word};
 ghost use Rattle.model.specs.Insert as side;

@@ -1,5 +1,6 @@
 // Formatting: node 0 becomes an empty leaf root, and 1, 2, .. N-1 are chained in rising order.
 #![tactic(auto)]
+
 ghost use Rattle.std.specs.Prelude.{◌≡◌, ◌-◌, ◌<◌, ◌≤◌, ◌++◌, length, take};
 ghost use Rattle.model.specs.Layout.{Sized, base, cells, header_size, largest_count, node_size, node_words};
 ghost use Rattle.model.specs.State.{formatted};

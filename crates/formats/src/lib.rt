@@ -1,5 +1,6 @@
 // Reading a node's words in either format: the format is an argument of the code and of its contract alike.
 #![tactic(auto)]
+
 ghost use Rattle.std.specs.Prelude.{◌≡◌, ◌+◌, ◌<◌, ◌≤◌};
 ghost use Rattle.model.specs.Layout.{format_number_by, base_by, node_size_by, word_at_by, most, state_word, length_word, parent_word, place_word, keys_word, edges_word, total_word};
 ghost use Rattle.formats.specs.Within.{WithinBy};

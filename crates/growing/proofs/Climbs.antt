@@ -44,7 +44,7 @@ use Rattle.shrinking.proofs.Items.{edge_in}
 use Rattle.growing.proofs.Bodies.{}
 use Rattle.growing.proofs.Steps.{start, node_in, new_root, push_ready, push_long, push_step, Kp}
 use Rattle.standing.proofs.Heads.{plug_root, plug_top}
-use Rattle.growing.proofs.Gaps.{FitIn, FitCall, with_first, fit-in, fit_held}
+use Rattle.growing.proofs.Gaps.{FitIn, FitCall, with_first, fit_in, fit_held}
 
 -- ---- nodes enough
 
@@ -224,7 +224,7 @@ module _ {w : List ℕ} {g : Rest} {h : ℕ} (x y : Tree (suc h)) (p : Pair) (m 
   crowned : Crown w g p y.no (rise (top {h = suc h}) x p y (m ∷ free))
   crowned = record {
     ready = record { head = hd; nodes = H.nodes; arena = H.arena; holds = (m ∷ free, push_fine) };
-    fits = λ w₁ n call. let q = pushed w₁ n call in rw q.0 (fit-in (new_root x (suc h) y m free O hd refl) top x y free q.1 refl);
+    fits = λ w₁ n call. let q = pushed w₁ n call in rw q.0 (fit_in (new_root x (suc h) y m free O hd refl) top x y free q.1 refl);
     settles = λ w₁ n call w₂ fit.
         let q = raw w₁ n call w₂ fit in
         let e = (pushed w₁ n call).0 in

@@ -69,8 +69,8 @@ module _ {us w : List ℕ} {g : Rest} {h : ℕ} (f : Frame (Tree h)) (c : Ctx (s
   node_known = known_here f c x y free H.arena H.stand
 
   module _ (room : is_full f ≡ false) where
-    pub fit-in : FitIn h w f.no (length f.left) (root_no h y)
-    fit-in = fits_here f c x y free H.arena H.stand room
+    pub fit_in : FitIn h w f.no (length f.left) (root_no h y)
+    fit_in = fits_here f c x y free H.arena H.stand room
 
     pub fit_held : (p : Pair) (w' : List ℕ) → FitCall h w w' f.no (length f.left) p (root_no h y) → ((q : ℕ) → times q (f.no ∷ []) ≡ 0 → times q us ≡ 0) → (nth H.nodes f.no).total ≤ ample → FitRaw w' g f c x y p free
     fit_held p w' call sub low =
@@ -157,7 +157,7 @@ module _ {w : List ℕ} {h node at child : ℕ} (s : Gap w h node at child) (k :
     room = not_full f (omega (arith, count_is))
 
     pub gap_fit : FitIn h w node at child
-    gap_fit = rw (s.node_is, s.at_is, s.child_is) at (fit-in s.frame s.way s.low s.high s.free s.held room)
+    gap_fit = rw (s.node_is, s.at_is, s.child_is) at (fit_in s.frame s.way s.low s.high s.free s.held room)
 
     pub gap_fitted : (p : Pair) (w' : List ℕ) → FitCall h w w' node at p child → FittedRaw s p w'
     gap_fitted p w' call =

@@ -124,8 +124,8 @@ module _ {w : List ℕ} {g : Rest} {h : ℕ} (c : Ctx (suc h)) (a b : Tree (suc 
   right_due : due B.nodes b.no ≡ length (flat (suc h) b)
   right_due = due_flat B.nodes (a.no ∷ b.no ∷ []) B.told h b (λ q. omega (arith, O.once q)) O.high
 
-  pub right-in : Has w (λ hd ns. Shaped ns b.no × (due ns b.no < 18446744073709551616))
-  right-in = record {
+  pub right_in : Has w (λ hd ns. Shaped ns b.no × (due ns b.no < 18446744073709551616))
+  right_in = record {
     head = hdr;
     nodes = B.nodes;
     arena = B.arena;

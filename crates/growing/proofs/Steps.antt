@@ -41,9 +41,9 @@ use Rattle.growing.proofs.Bodies.{new_child, Takes, splitting, fitting_ready, fi
 
 -- ---- the root, and a tree beside the hole
 
-child-in : (h : ℕ) (y : Tree h) (q : ℕ) → times q (new_child h (root_no h y)) ≤ has q h y
-child-in zero y q = omega arith
-child-in (suc h) y q = omega arith
+child_in : (h : ℕ) (y : Tree h) (q : ℕ) → times q (new_child h (root_no h y)) ≤ has q h y
+child_in zero y q = omega arith
+child_in (suc h) y q = omega arith
 
 kind_some : (h : ℕ) → 1 ≤ kind h
 kind_some zero = omega arith
@@ -147,7 +147,7 @@ module _ {h : ℕ} (f : Frame (Tree h)) (c : Ctx (suc h)) (x y : Tree h) (free :
           chain = chain_kept _ _ _ _ fit_kept free (λ q. omega (arith, O.once q)) O.chain;
           rises = O.rises;
           links = fit_kept.links;
-          root = fit_kept.roots (root_of c f.no) (omega (arith, O.once (root_of c f.no), child-in h y (root_of c f.no))) r.0 ∙ O.root;
+          root = fit_kept.roots (root_of c f.no) (omega (arith, O.once (root_of c f.no), child_in h y (root_of c f.no))) r.0 ∙ O.root;
           once = λ m. omega (arith, O.once m);
           within = λ m g. rw fit_kept.long (O.within m (omega arith));
           all = λ m g. omega (arith, O.all m (rw fit_kept.long at g));
@@ -336,11 +336,11 @@ module _ {h : ℕ} (f : Frame (Tree h)) (c : Ctx (suc h)) (x y : Tree h) (p : Pa
         high = (high_content, a.1, a.2);
         loose =
             let l = split_loose ns O.links O.few f.no m (first_or free) s.place on om apart O.chain.0 in
-            link_parent (put.keeps.roots m (omega (arith, O.once m, one_self m, child-in h y m)) (link_parent l) ∙ l);
+            link_parent (put.keeps.roots m (omega (arith, O.once m, one_self m, child_in h y m)) (link_parent l) ∙ l);
         chain = chain_kept _ _ _ _ K free (λ q. omega (arith, O.once q)) O.chain.1;
         rises = O.rises.1;
         links = K.links;
-        root = K.roots (root_of c f.no) (omega (arith, O.once (root_of c f.no), child-in h y (root_of c f.no), w.1)) w.0 ∙ O.root;
+        root = K.roots (root_of c f.no) (omega (arith, O.once (root_of c f.no), child_in h y (root_of c f.no), w.1)) w.0 ∙ O.root;
         once = λ q. omega (arith, O.once q, counted q);
         within = λ q g. rw K.long (O.within q (omega (arith, counted q)));
         all = λ q g. omega (arith, O.all q (rw K.long at g), counted q);

@@ -1,5 +1,6 @@
 // The header of an arena: its words by name, and the sizes that an arena may have.
 #![tactic(auto)]
+
 ghost use Rattle.std.specs.Prelude.{◌≡◌, ◌+◌, ◌-◌, ◌<◌, ◌≤◌, length, set};
 ghost use Rattle.model.specs.Layout.{header_size, header, format_word, count_word, offset_word, root_word, height_word, pairs_word, first_free_word, free_word, seen_word, mark_word};
 ghost use Rattle.header.specs.Headers.{Counted, raised};

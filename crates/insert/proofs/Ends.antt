@@ -65,8 +65,8 @@ pub record GapIn (k : ℕ) (s : State) (d : Handle) : Type 0 where
   pub found : search k s.whole ≡ gap edge.way
 
 module _ {w : List ℕ} {s : State} (o : Holds w s) (k : ℕ) (d : Handle) where
-  pub pair-in : Found d ≡ spotted (search k s.whole) → PairIn k s d
-  pair-in e = go (search k s.whole) refl (search_right k s.whole o.sound.rising) e
+  pub pair_in : Found d ≡ spotted (search k s.whole) → PairIn k s d
+  pair_in e = go (search k s.whole) refl (search_right k s.whole o.sound.rising) e
     where
       go : (p : Spot) → search k s.whole ≡ p → Sought k s.whole p → Found d ≡ spotted p → PairIn k s d
       go (gap c) f q z = let a : ◌≡◌ {A = ℕ} 0 1 = cc in absurd (omega arith)
@@ -74,8 +74,8 @@ module _ {w : List ℕ} {s : State} (o : Holds w s) (k : ℕ) (d : Handle) where
           let a : d ≡ handle n h (length l) = cc in
           record { height = h; ctx = c; no = n; left = l; hole = u; item = x; right = r; found = f; whole = q.0; node_is = ap (λ (b : Handle). b.node.0) (sym a); at_is = ap (λ (b : Handle). b.at.0) (sym a) }
 
-  pub gap-in : GoDown d ≡ spotted (search k s.whole) → GapIn k s d
-  gap-in e = go (search k s.whole) refl (search_right k s.whole o.sound.rising) e
+  pub gap_in : GoDown d ≡ spotted (search k s.whole) → GapIn k s d
+  gap_in e = go (search k s.whole) refl (search_right k s.whole o.sound.rising) e
     where
       go : (p : Spot) → search k s.whole ≡ p → Sought k s.whole p → GoDown d ≡ spotted p → GapIn k s d
       go (gap c) f q z = record { edge = record { way = c; whole = q.0; is = cc }; found = f }
@@ -105,8 +105,8 @@ module _ {w : List ℕ} {s : State} (o : Holds w s) (k v : ℕ) (d : Handle) (y 
   there : PairAt (nodes_in s) d.node.0 d.at.0
   there = rw (y.node_is, y.at_is) at (pair_ready y.ctx y.no y.left y.hole y.item y.right s.free H)
 
-  pub replace-in : Has w (λ h ns. PairAt ns d.node.0 d.at.0)
-  replace-in = record { head = header_of s; nodes = nodes_in s; arena = words_arena; holds = there }
+  pub replace_in : Has w (λ h ns. PairAt ns d.node.0 d.at.0)
+  replace_in = record { head = header_of s; nodes = nodes_in s; arena = words_arena; holds = there }
 
   header_same : header_of s ≡ head_words (rest_of s) (root_no (plug y.ctx is).height (plug y.ctx is).root) (pred (plug y.ctx is).height) s.free
   header_same =
@@ -114,8 +114,8 @@ module _ {w : List ℕ} {s : State} (o : Holds w s) (k v : ℕ) (d : Handle) (y 
       let b = plug_top y.ctx is ∙ (sym (plug_top y.ctx was) ∙ ap (λ (x : Whole). x.height) y.whole) in
       ap₂ (λ (r t : ℕ). head_words (rest_of s) r (pred t) s.free) (sym a) (sym b)
 
-  pub replaced-in : (old : Kv) (w' : List ℕ) → ReplaceCall w w' d.node.0 d.at.0 p (pair_of old) → Placed k s (put k v s) w' (Value old.1) 0
-  replaced-in old w' call =
+  pub replaced_in : (old : Kv) (w' : List ℕ) → ReplaceCall w w' d.node.0 d.at.0 p (pair_of old) → Placed k s (put k v s) w' (Value old.1) 0
+  replaced_in old w' call =
       let c = call (header_of s) (nodes_in s) there words_arena in
       let e : old.1 ≡ y.item.pair.val = ap (λ (q : Pair). q.val) (c.0 ∙ (rw (y.node_is, y.at_is) at (pair_is y.ctx y.no y.left y.hole y.item y.right s.free H))) in
       subst (λ (z : Spot). Placed k s (put_at k v s z) w' (Value old.1) 0) (sym y.found) (record {
@@ -148,8 +148,8 @@ module _ {w : List ℕ} {s : State} (o : Holds w s) (k v : ℕ) (d : Handle) (y 
     pub enough : needed y.edge.way ≤ length s.free
     enough = omega (arith, free_is)
 
-    pub added-in : (w' : List ℕ) → ClosedIn w' (rest_of s) (rise y.edge.way tt (record { key = k; val = v }) tt s.free) → Placed k s (put k v s) w' Done 1
-    added-in w' h =
+    pub added_in : (w' : List ℕ) → ClosedIn w' (rest_of s) (rise y.edge.way tt (record { key = k; val = v }) tt s.free) → Placed k s (put k v s) w' Done 1
+    added_in w' h =
         let c = y.edge.way in
         let q : Pair = record { key = k; val = v } in
         let g = rise c tt q tt s.free in
@@ -199,8 +199,8 @@ seen_spent : (k : ℕ) (m : Mark) → seen_of (spend k m) ≡ 1
 seen_spent k unseen = refl
 seen_spent k (seen a) = refl
 
-raised-in : (k : ℕ) {w w' h : List ℕ} {ns : List NodeVal} → w' ≡ raised k w → Arena w h ns → Arena w' (raised k h) ns
-raised-in k {h = h} e a = rw (e, head_is a mark_word (lit< tt)) (head_put (head_put a mark_word (max (header h mark_word) k) (lit< tt)) seen_word 1 (lit< tt))
+raised_in : (k : ℕ) {w w' h : List ℕ} {ns : List NodeVal} → w' ≡ raised k w → Arena w h ns → Arena w' (raised k h) ns
+raised_in k {h = h} e a = rw (e, head_is a mark_word (lit< tt)) (head_put (head_put a mark_word (max (header h mark_word) k) (lit< tt)) seen_word 1 (lit< tt))
 
 -- the count of pairs raised by so many
 abbrev pub Counts : List ℕ → List ℕ → ℕ → Type 0
@@ -224,7 +224,7 @@ module _ {w : List ℕ} {s : State} (o : Holds w s) (k v : ℕ) {w₁ : List ℕ
   pub ended : (w₂ w₃ : List ℕ) → Counts w₁ w₂ more → w₃ ≡ raised k w₂ → Does (put k v s) w₃ r
   ended w₂ w₃ count e =
       let d = put k v s in
-      let a = raised-in k e (count _ q.held.nodes q.held.arena) in
+      let a = raised_in k e (count _ q.held.nodes q.held.arena) in
       record {
         left = closed_words d.state (put_sound k v s o.sound) a (rw (q.size_is, q.pairs_are, q.mark_is, mark_spent k s.mark, seen_spent k s.mark) refl) (q.held.many ∙ sym q.size_is) q.held.stand q.held.told;
         said = sym q.said;

@@ -12,7 +12,7 @@ use Rattle.standing.specs.Totals.{due}
 use Rattle.totals.specs.Settling.{Settles}
 use Rattle.growing.specs.Climbs.{Gap, Fitted, Risen, FittedRaw, RisenRaw}
 use Rattle.totals.proofs.Siblings.{SetCall, SettleCall}
-use Rattle.growing.proofs.Settled.{fit_settles, fit_done, right-in, left_in, split_done}
+use Rattle.growing.proofs.Settled.{fit_settles, fit_done, right_in, left_in, split_done}
 
 module _ {w₀ w : List ℕ} {h node at child : ℕ} (s : Gap w₀ h node at child) (p : Pair) where
   pub fit_ready : FittedRaw s p w → Has w (λ hd ns. Settles hd ns node)
@@ -27,7 +27,7 @@ module _ {w₀ w : List ℕ} {h node at child : ℕ} (s : Gap w₀ h node at chi
 
   module _ (up : Pair) (right : ℕ) (R : RisenRaw s p w up right) where
     pub right_ready : Has w (λ hd ns. Shaped ns right × (due ns right < 18446744073709551616))
-    right_ready = subst (λ (n : ℕ). Has w (λ hd ns. Shaped ns n × (due ns n < 18446744073709551616))) R.risen.right_is (right-in s.way (halved s.frame s.way s.low p s.high s.free).left (halved s.frame s.way s.low p s.high s.free).right (untaken s.free) R.risen.held R.low)
+    right_ready = subst (λ (n : ℕ). Has w (λ hd ns. Shaped ns n × (due ns n < 18446744073709551616))) R.risen.right_is (right_in s.way (halved s.frame s.way s.low p s.high s.free).left (halved s.frame s.way s.low p s.high s.free).right (untaken s.free) R.risen.held R.low)
 
     module _ (w₁ : List ℕ) (set : SetCall w w₁ right) where
       set' : SetCall w w₁ (halved s.frame s.way s.low p s.high s.free).right.no

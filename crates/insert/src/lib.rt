@@ -1,5 +1,6 @@
 // Insertion: the climb from a leaf edge, and put behind a checked arena (node.rs's insert_recursing, map.rs's insert).
 #![tactic(auto)]
+
 ghost use Rattle.std.specs.Prelude.{◌≡◌, List, ℕ, suc};
 ghost use Rattle.model.specs.Nodes.{Grown};
 ghost use Rattle.model.specs.Tree.{Pair};

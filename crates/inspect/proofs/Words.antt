@@ -58,10 +58,10 @@ module _ (fm : Layout) (w : List ℕ) (count : ℕ) where
   chain_out zero x l h = absurd (omega arith)
   chain_out (suc c) x l h = rw (sub-one (suc c)) h
 
-  pub chain-in : (c x : ℕ) → 0 < c → OwnFreeBy fm w count x → ChainBy fm w count (c - 1) (word_at_by fm w x parent_word) → ChainBy fm w count c x
+  pub chain_in : (c x : ℕ) → 0 < c → OwnFreeBy fm w count x → ChainBy fm w count (c - 1) (word_at_by fm w x parent_word) → ChainBy fm w count c x
   unfolding ChainBy
-  chain-in zero x l o h = absurd (omega arith)
-  chain-in (suc c) x l o h = (o, rw (sub-one (suc c)) at h)
+  chain_in zero x l o h = absurd (omega arith)
+  chain_in (suc c) x l o h = (o, rw (sub-one (suc c)) at h)
 
   pub chain_done : (c x : ℕ) → c ≡ 0 → ChainBy fm w count c x → x ≡ none
   unfolding ChainBy

@@ -12,8 +12,8 @@ use Rattle.node.proofs.Fields.{unstored, row_fields, set_fields, first, done}
 use Rattle.columns.specs.Columns.{In, put_column, put_columns}
 use Rattle.store.specs.Links.{with_edges}
 
-pub edges-in : (ns : List NodeVal) (n m : ℕ) → n < length ns → m ≡ length (nth ns n).edges → In (map fields_of ns) n edge_column edges_word m
-edges-in ns n m o e = record { node = rw length-map o; start_is = refl; count_is = rw (row_fields ns n) e }
+pub edges_in : (ns : List NodeVal) (n m : ℕ) → n < length ns → m ≡ length (nth ns n).edges → In (map fields_of ns) n edge_column edges_word m
+edges_in ns n m o e = record { node = rw length-map o; start_is = refl; count_is = rw (row_fields ns n) e }
 
 module _ {w h : List ℕ} (ns : List NodeVal) (n : ℕ) (o : n < length ns) where
   pub edge_inserted : (i x : ℕ) → Stored w h (put_column (map fields_of ns) n edge_column (insert_at (row (map fields_of ns) n).edges i x)) → Arena w h (set ns n (with_edges (nth ns n) (insert_at (nth ns n).edges i x)))

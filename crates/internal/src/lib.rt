@@ -1,5 +1,6 @@
 // Internal nodes: a pair put in with the edge right of it, the split, and levels put on the tree and taken off.
 #![tactic(auto)]
+
 ghost use Rattle.std.specs.Prelude.{◌≡◌, List, ℕ};
 ghost use Rattle.model.specs.Layout.{NodeVal, Arena};
 ghost use Rattle.node.specs.Reading.{Has, pair_of};

@@ -26,7 +26,7 @@ use Rattle.model.proofs.Marks.{covers_left, covers_right}
 use Rattle.model.proofs.Held.{words_long}
 use Rattle.model.proofs.Backward.{backward}
 use Rattle.model.proofs.Header.{header_is, seen_is, mark_is}
-use Rattle.model.proofs.Unique.{in-state}
+use Rattle.model.proofs.Unique.{in_state}
 use Rattle.loading.proofs.Runs.{pairs_back, words_even}
 use Rattle.loading.proofs.Merging.{all_merge, rising_merge, length_merge}
 use Rattle.loading.proofs.Least.{nodes_more}
@@ -116,7 +116,7 @@ module _ {w v : List ℕ} (o : List ℕ) where
 
   module _ {s t : State} (h : Holds w s) (g : Holds v t) where
     in_both : (P : State → State → Type 0) → InState w (λ s. InState v (λ t. P s t)) → P s t
-    in_both P x = in-state (P s) g (in-state (λ s. InState v (P s)) h x)
+    in_both P x = in_state (P s) g (in_state (λ s. InState v (P s)) h x)
 
     of_both : (P : State → State → Type 0) → P s t → InState w (λ s. InState v (λ t. P s t))
     of_both P p = record { state = s; holds = h; is = record { state = t; holds = g; is = p } }

@@ -1,5 +1,6 @@
 // Joining two indexes (map.rs, append): the pairs of both are merged in one walk, and the first is loaded anew with them; the second ends empty.
 #![tactic(auto)]
+
 ghost use Rattle.std.specs.Prelude.{◌≡◌, ℕ, ◌+◌, ◌<◌, length};
 ghost use Rattle.model.specs.Lists.{All};
 ghost use Rattle.model.specs.Layout.{header, pairs_word};

@@ -44,8 +44,8 @@ module _ (ns : List NodeVal) (n : ℕ) (o : n < length ns) (m : ℕ) (e : m ≡ 
   pub keys_in : In (map fields_of ns) n key_column keys_word m
   keys_in = record { node = rw length-map o; start_is = refl; count_is = rw (row_fields ns n, length-map) e }
 
-  pub vals-in : (f : Fields) → length f.vals ≡ m → In (set (map fields_of ns) n f) n val_column values_word m
-  vals-in f d = record {
+  pub vals_in : (f : Fields) → length f.vals ≡ m → In (set (map fields_of ns) n f) n val_column values_word m
+  vals_in f d = record {
     node = rw (length-set, length-map) o;
     start_is = refl;
     count_is = rw (get_or-set_same (map fields_of ns) n f (fields_of blank) (rw length-map o)) (sym d);
@@ -71,11 +71,11 @@ module _ (ns : List NodeVal) (l r : ℕ) (t : Two ns l r) (f g : Fields) where
   row_r = get_or-set_same (set (map fields_of ns) l f) r g (fields_of blank) (rw (length-set, length-map) t.right)
 
   -- a column of each, with as many words in use as it has
-  in-l : (k : Column) (start m : ℕ) → start ≡ start_of k → m ≡ length (column k f) → In now l k start m
-  in-l k start m s e = record { node = rw both_long t.left; start_is = s; count_is = rw row_l e }
+  in_l : (k : Column) (start m : ℕ) → start ≡ start_of k → m ≡ length (column k f) → In now l k start m
+  in_l k start m s e = record { node = rw both_long t.left; start_is = s; count_is = rw row_l e }
 
-  in-r : (k : Column) (start m : ℕ) → start ≡ start_of k → m ≡ length (column k g) → In now r k start m
-  in-r k start m s e = record { node = rw both_long t.right; start_is = s; count_is = rw row_r e }
+  in_r : (k : Column) (start m : ℕ) → start ≡ start_of k → m ≡ length (column k g) → In now r k start m
+  in_r k start m s e = record { node = rw both_long t.right; start_is = s; count_is = rw row_r e }
 
   swap : (x : Fields) → set now l x ≡ set (set (map fields_of ns) l x) r g
   swap x = set_comm (set (map fields_of ns) l f) r l g x (λ e. t.apart (sym e)) ∙ ap (λ (s : List Fields). set s r g) (set-set (map fields_of ns) l f x)
@@ -162,8 +162,8 @@ module _ {h w w₁ w₂ w₃ w₄ : List ℕ} {ns : List NodeVal} {l r : ℕ} (t
       let kr = en ∙ sym (length-map qs key_of) in
       let vl = em ∙ sym (length-map ps val_of) in
       let vr = en ∙ sym (length-map qs val_of) in
-      let s₁ = both_again ns l r t _ _ (λ (v u : Fields). with_column key_column (G v.keys u.keys) v) (λ (v u : Fields). with_column key_column (H v.keys u.keys) u) (keys _ (in-l ns l r t _ _ key_column _ m refl kl) (in-r ns l r t _ _ key_column _ n refl kr) (rw (both_same ns l r) at (stored a))) in
-      let s₂ = both_again ns l r t _ _ (λ (v u : Fields). with_column val_column (G v.vals u.vals) v) (λ (v u : Fields). with_column val_column (H v.vals u.vals) u) (vals _ (in-l ns l r t _ _ val_column _ m refl vl) (in-r ns l r t _ _ val_column _ n refl vr) s₁) in
+      let s₁ = both_again ns l r t _ _ (λ (v u : Fields). with_column key_column (G v.keys u.keys) v) (λ (v u : Fields). with_column key_column (H v.keys u.keys) u) (keys _ (in_l ns l r t _ _ key_column _ m refl kl) (in_r ns l r t _ _ key_column _ n refl kr) (rw (both_same ns l r) at (stored a))) in
+      let s₂ = both_again ns l r t _ _ (λ (v u : Fields). with_column val_column (G v.vals u.vals) v) (λ (v u : Fields). with_column val_column (H v.vals u.vals) u) (vals _ (in_l ns l r t _ _ val_column _ m refl vl) (in_r ns l r t _ _ val_column _ n refl vr) s₁) in
       let s₃ = left_again ns l r t _ _ (with_count x) (left _ (rw (both_long ns l r t) t.left) s₂) in
       both_done ns l r t _ _ _ _ (anew (nth ns l) (G' ps qs) x _ _ (g key_of) (g val_of) ex) (anew (nth ns r) (H' ps qs) y _ _ (k key_of) (k val_of) ey) (right_again ns l r t _ _ (with_count y) (right _ (rw (both_long ns l r t) t.right) s₃))
 

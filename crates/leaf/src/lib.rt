@@ -1,5 +1,6 @@
 // The pairs of nodes: of a leaf, or those of an internal node without its edges.
 #![tactic(auto)]
+
 ghost use Rattle.std.specs.Prelude.{◌≡◌, List, ℕ};
 ghost use Rattle.model.specs.Layout.{NodeVal, Arena, nth};
 ghost use Rattle.node.specs.Reading.{Has, pair_of, pair_at};

@@ -1,5 +1,6 @@
 // The load of a sorted run into a slice that it formats.
 #![tactic(auto)]
+
 ghost use Rattle.model.specs.Public.{Promised};
 ghost use Rattle.model.specs.Public as promise;
 

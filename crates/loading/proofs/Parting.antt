@@ -22,7 +22,7 @@ use Rattle.model.proofs.Sizes.{FullCtx, len_most}
 use Rattle.model.proofs.Descent.{up_of, Parts, sink_parts}
 use Rattle.model.proofs.Border.{Bordered}
 use Rattle.model.specs.Parting.{path_of, trimmed, dropped, returned_all}
-use Rattle.loading.proofs.Numbers.{numbers-in, numbers_has}
+use Rattle.loading.proofs.Numbers.{numbers_in_lem, numbers_has}
 use Rattle.loading.proofs.Stocking.{last_fill}
 
 -- ---- the path of a key
@@ -63,7 +63,7 @@ trimmed_flat c = flat_plug (trimmed c) tt ∙ (rw (trimmed_before c, trimmed_aft
 
 pub trimmed_has : {h : ℕ} (m : ℕ) (c : Ctx h) → has_ctx m (trimmed c) + times m (dropped c) ≡ has_ctx m c
 trimmed_has m top = refl
-trimmed_has m (under {h = h} f c) = omega (arith, trimmed_has m c, times_append m (numbers_in (numbers h) f.right) (dropped c), numbers-in m (numbers h) (has m h) (numbers_has m h) f.right)
+trimmed_has m (under {h = h} f c) = omega (arith, trimmed_has m c, times_append m (numbers_in (numbers h) f.right) (dropped c), numbers_in_lem m (numbers h) (has m h) (numbers_has m h) f.right)
 
 pub returned_all_lem : (m : ℕ) (ns free : List ℕ) → times m (returned_all ns free) ≡ times m ns + times m free
 returned_all_lem m [] free = omega arith

@@ -6,8 +6,8 @@ use native.Mathlib.Omega.{arith}
 use mathlib.Core.Path.{◌≡◌, refl, ap, ◌∙◌, sym, subst}
 use mathlib.Core.Logic.{⊎_elim}
 use mathlib.Core.Bool.{Bool, true, false, cond, not, ◌&&◌}
-use mathlib.Core.List.{List, [], ◌∷◌, ◌++◌, append_assoc, append-nil, map}
-use mathlib.Core.Option.{Option, some, none}
+use mathlib.Core.List.{List, [], ◌∷◌, ◌++◌, append_assoc, append-nil}
+use mathlib.Core.Option.{some}
 use lib.Dec.{leb, ltb, eqb}
 use lib.ListN.{length, drop, length-map, length-drop}
 use borrow.Author.Tests.{leb-true, leb-false, ltb-true, ltb-false, le-leb, lt-leb, lt-ltb, le-ltb}
@@ -15,10 +15,10 @@ use Rattle.model.specs.declared.SearchBound.{SearchBound}
 use Rattle.model.specs.declared.SearchBound.TheVariants.{Included, Excluded, AllIncluded, AllExcluded}
 use Rattle.model.specs.declared.Range.{Range}
 use Rattle.model.specs.Lists.{All}
-use Rattle.model.specs.Tree.{Pair, Item, Node, Tree, Frame, Ctx, top, under, Whole, plug, fill, flat, flats, lefts, before, after, flat_of}
-use Rattle.model.specs.Range.{from_start, to_end, IndexResult, kv, edge, key_index, BoundEdge, at_key, lower_edge, upper_edge, Opened, open_at, keys_of, Fork, parted, together, fork, fork_of}
+use Rattle.model.specs.Tree.{Pair, Item, Tree, Ctx, top, under, Whole, plug, fill, flat, flats, lefts, before, after, flat_of}
+use Rattle.model.specs.Range.{from_start, to_end, IndexResult, kv, edge, key_index, BoundEdge, at_key, lower_edge, upper_edge, Opened, open_at, keys_of, fork}
 use Rattle.model.specs.Map.{Rising, Below, Above, range, closed_at}
-use Rattle.model.specs.Edges.{down_at, hole_at, inner, between_at, past_end, Belongs, Divides, PartsAt, MeetsAt, Forks, ForkRight}
+use Rattle.model.specs.Edges.{down_at, hole_at, inner, between_at, past_end, Belongs, Divides, PartsAt, Forks, ForkRight}
 use Rattle.model.proofs.Lists.{all_append, all_left, all_right, all_map, all_both, below_or}
 use Rattle.model.proofs.Rising.{rising_left, rising_right, rising_below, rising_above, rising_without}
 use Rattle.model.proofs.Plug.{flat_plug}

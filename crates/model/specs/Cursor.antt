@@ -1,13 +1,12 @@
 -- The walking cursor: where it stands, and where first, last, seek, next and previous lead.
 -- Assumes nothing.
-use Rattle.std.specs.Prelude.{ℕ, zero, suc, ◌+◌, ◌<◌, ◌≡◌, Bool, true, false, cond, ◌&&◌, List, [], ◌∷◌, ◌++◌, reverse, eqb}
+use Rattle.std.specs.Prelude.{ℕ, zero, suc, ◌+◌, ◌<◌, ◌≡◌, Bool, cond, ◌&&◌, List, [], ◌∷◌, ◌++◌, reverse, eqb}
 use Rattle.std.proofs.Math.Option.{Option, some, none}
-use Rattle.model.specs.declared.Answer.{Answer}
 use Rattle.model.specs.declared.Answer.TheVariants.{StaleCursor}
 use Rattle.model.specs.declared.Picked.{Picked}
 use Rattle.model.specs.declared.SearchBound.{SearchBound}
 use Rattle.model.specs.Layout.{header, word_at, count_word, state_word, free, length_word, keys_word, values_word}
-use Rattle.model.specs.Tree.{Pair, Item, Node, Tree}
+use Rattle.model.specs.Tree.{Pair, Item, Tree}
 use Rattle.model.specs.Range.{starts}
 use Rattle.model.specs.Map.{picked}
 use Rattle.model.specs.State.{State}

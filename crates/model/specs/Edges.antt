@@ -6,8 +6,8 @@ use Rattle.model.specs.declared.SearchBound.{SearchBound}
 use Rattle.model.specs.declared.SearchBound.TheVariants.{AllIncluded}
 use Rattle.model.specs.declared.Range.{Range}
 use Rattle.model.specs.Lists.{All}
-use Rattle.model.specs.Tree.{Pair, Item, Node, Tree, Frame, Ctx, under, Whole, plug, flat, flat_of, before, after}
-use Rattle.model.specs.Range.{from_start, to_end, Opened, open_at, Fork, parted, together, fork_of}
+use Rattle.model.specs.Tree.{Pair, Item, Node, Tree, Ctx, under, Whole, plug, flat, flat_of, before, after}
+use Rattle.model.specs.Range.{from_start, to_end, open_at, Fork, parted, together, fork_of}
 use Rattle.model.specs.Map.{Below, Above, Rising, range, closed_at}
 
 -- ---- a node's edges

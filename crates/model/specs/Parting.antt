@@ -1,7 +1,7 @@
 -- Cutting off the upper part: split.rs on values. The path of the key is the way to a leaf edge; what is left of it stays.
 -- Assumes nothing.
-use Rattle.std.specs.Prelude.{ℕ, zero, suc, List, [], ◌∷◌, ◌++◌}
-use Rattle.model.specs.Tree.{Pair, Tree, Frame, Ctx, top, under, Whole, plug, after, numbers_in, numbers}
+use Rattle.std.specs.Prelude.{ℕ, zero, List, [], ◌∷◌, ◌++◌}
+use Rattle.model.specs.Tree.{Pair, Ctx, top, under, Whole, plug, after, numbers_in, numbers}
 use Rattle.model.specs.Nodes.{returned, Grown}
 use Rattle.model.specs.Insert.{right}
 use Rattle.model.specs.Search.{reaches, sink}

@@ -2,7 +2,7 @@
 -- Assumes nothing.
 use Rattle.std.specs.Prelude.{ℕ, zero, suc, ◌+◌, ◌≤◌, List, [], ◌∷◌, length}
 use Rattle.model.specs.Layout.{least, most}
-use Rattle.model.specs.Tree.{Item, Node, Tree, Frame, Ctx, top, under}
+use Rattle.model.specs.Tree.{Item, Node, Tree, Ctx, top, under}
 use Rattle.model.specs.Insert.{Side, left, right}
 use Rattle.model.specs.Sound.{AllIn, Full}
 

@@ -6,7 +6,7 @@ use Rattle.model.specs.declared.SearchBound.TheVariants.{Included, Excluded, All
 use Rattle.model.specs.declared.Range.{Range}
 use Rattle.model.specs.Lists.{count, pad, insert_at}
 use Rattle.model.specs.Layout.{none, Format1, node_words_by, frame, arena_by}
-use Rattle.model.specs.Tree.{Pair, Item, Tree, Frame, Ctx, top, under}
+use Rattle.model.specs.Tree.{Pair, Item, Tree, top, under}
 use Rattle.model.specs.Range.{bad_range, keys_of, Fork, parted, together, fork_of}
 use Rattle.model.specs.Mark.{seen_of, mark_of, lower}
 use Rattle.model.specs.Insert.{Split, Side, left, right as rightSide, splitpoint}

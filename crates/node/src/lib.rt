@@ -1,5 +1,6 @@
 // Nodes of the arena: the two kinds of number, the places of a node's words, reading, and which pair of a full node rises.
 #![tactic(auto)]
+
 ghost use Rattle.std.specs.Prelude.{◌≡◌, ◌+◌, ◌<◌, ◌≤◌, max};
 ghost use Rattle.model.specs.Lists.{part};
 ghost use Rattle.model.specs.Layout.{base, most, node_size, state_word, length_word, parent_word, place_word, keys_word, values_word, edges_word, total_word, word_at};

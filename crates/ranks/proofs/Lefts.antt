@@ -120,11 +120,11 @@ module _ (z : Ctx zero) {w : List ℕ} {s : State} (o : Holds w s) (b : SearchBo
   low_is : {h : ℕ} (p : At s n h) → l ≡ edged (low_at p)
   low_is p = el ∙ ap (λ (x : List ℕ). edged (lower_edge b x)) (keys_are o p ks q)
 
-  low-in : {h : ℕ} (p : At s n h) → (low_at p).at ≤ length p.tree.rest
-  low-in p = simp length-map at (lower_inside b (keys_of p.tree.rest))
+  low_in : {h : ℕ} (p : At s n h) → (low_at p).at ≤ length p.tree.rest
+  low_in p = simp length-map at (lower_inside b (keys_of p.tree.rest))
 
   pub low_inside : {h : ℕ} (p : At s n h) → l.at.0 ≤ length p.tree.rest
-  low_inside p = rw (low_is p) (low-in p)
+  low_inside p = rw (low_is p) (low_in p)
 
   rises : {h : ℕ} (p : At s n h) → Rising (flat_of (plug p.ctx p.tree))
   rises p = subst (λ (x : Whole). Rising (flat_of x)) (sym p.whole) o.sound.rising
@@ -133,7 +133,7 @@ module _ (z : Ctx zero) {w : List ℕ} {s : State} (o : Holds w s) (b : SearchBo
   sunk zero y e =
       let p = y.place in
       let i = (low_at p).at in
-      rw (low_is p) (sym (ap (λ (c : Ctx zero). length (before c)) (y.same ∙ lower_step b p.ctx p.tree (rises p)) ∙ (length-append (before p.ctx) (lefts (flat 0) (open_at i [] p.tree.first p.tree.rest).left) ∙ omega (arith, y.sum_is, left_is 0 p.tree i (low-in p), gaps_none i p.tree.first p.tree.rest))))
+      rw (low_is p) (sym (ap (λ (c : Ctx zero). length (before c)) (y.same ∙ lower_step b p.ctx p.tree (rises p)) ∙ (length-append (before p.ctx) (lefts (flat 0) (open_at i [] p.tree.first p.tree.rest).left) ∙ omega (arith, y.sum_is, left_is 0 p.tree i (low_in p), gaps_none i p.tree.first p.tree.rest))))
   sunk (suc h) y e = absurd (omega arith)
 
   pub sinking_on : (h : ℕ) → Sinking z s b n h sum → (h ≡ 0 → ⊥) → (x : ℕ) → ((k : ℕ) (p : At s n (suc k)) → l.at.0 ≤ length p.tree.rest → x ≡ length (lefts (flat (suc k)) (open_at l.at.0 [] p.tree.first p.tree.rest).left))
@@ -145,7 +145,7 @@ module _ (z : Ctx zero) {w : List ℕ} {s : State} (o : Holds w s) (b : SearchBo
       let i = (low_at p).at in
       let k : x ≡ length (lefts (flat (suc h)) (open_at i [] p.tree.first p.tree.rest).left) = rw a at (ex h p (low_inside p)) in
       rw (sub-one (suc h), a) (record {
-        place = below_at o p i m (low-in p) (rw a at em);
+        place = below_at o p i m (low_in p) (rw a at em);
         same = y.same ∙ lower_step b p.ctx p.tree (rises p);
         sum_is = sym (length-append (before p.ctx) (lefts (flat (suc h)) (open_at i [] p.tree.first p.tree.rest).left) ∙ omega (arith, y.sum_is, k));
       })
@@ -209,8 +209,8 @@ pub record Coming (h : ℕ) (t : Tree (suc h)) (k i j : ℕ) : Type 0 where
   pub same : nth k (flat (suc h) t) ≡ nth j (flat h (hole_at t i) ++ flats (flat h) (open_at i [] t.first t.rest).right)
   pub more : j < length (flat h (hole_at t i) ++ flats (flat h) (open_at i [] t.first t.rest).right)
 
-pub coming-in : (h : ℕ) (t : Tree (suc h)) (k : ℕ) → k < length (flat (suc h) t) → Coming h t k 0 k
-coming-in h t k l =
+pub coming_in : (h : ℕ) (t : Tree (suc h)) (k : ℕ) → k < length (flat (suc h) t) → Coming h t k 0 k
+coming_in h t k l =
     let z = zero_hole [] t.first t.rest in
     record { inside = omega arith; same = sym (ap₂ (λ (e : Tree h) (r : List (Item (Tree h))). nth k (flat h e ++ flats (flat h) r)) z.0 z.1); more = subst (λ (n : ℕ). k < n) (sym (ap₂ (λ (e : Tree h) (r : List (Item (Tree h))). length (flat h e ++ flats (flat h) r)) z.0 z.1)) l }
 

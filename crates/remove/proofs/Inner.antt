@@ -144,8 +144,8 @@ module _ {w : List ℕ} {t : State} (o : Holds w t) {d : Handle} (y : KvAt t d) 
   ready : PairAt H.nodes y.no (length y.left)
   ready = pair_ready y.ctx y.no y.left y.hole y.item y.right t.free H.stand
 
-  pub kv-in : Has w (λ h ns. PairAt ns d.node.0 d.at.0)
-  kv-in = rw (y.node_is, y.at_is) (let z : Has w (λ h ns. PairAt ns y.no (length y.left)) = record { head = hd; nodes = H.nodes; arena = H.arena; holds = ready } in z)
+  pub kv_in : Has w (λ h ns. PairAt ns d.node.0 d.at.0)
+  kv_in = rw (y.node_is, y.at_is) (let z : Has w (λ h ns. PairAt ns y.no (length y.left)) = record { head = hd; nodes = H.nodes; arena = H.arena; holds = ready } in z)
 
   module _ {w' : List ℕ} {kv r : Kv} (call : ReplaceCall w w' d.node.0 d.at.0 kv r) where
     call' : ReplaceCall w w' y.no (length y.left) kv r
@@ -215,8 +215,8 @@ module _ {w : List ℕ} {s : State} (o : Holds w s) {d : Handle} (y : InnerKv s 
       again : Placed s₁ (search p.key s₁.whole) x
       again = search_placed p.key o₁.sound x (rw ek at ex)
 
-      pub again-in : Has w₁ (λ h ns. PairAt ns x.node.0 x.at.0)
-      again-in = kv-in o₁ again.kv
+      pub again_in : Has w₁ (λ h ns. PairAt ns x.node.0 x.at.0)
+      again_in = kv_in o₁ again.kv
 
       module _ {w₂ : List ℕ} {kv r : Kv} (ekv : pair_of kv ≡ left_kv.item.pair) (call : ReplaceCall w₁ w₂ x.node.0 x.at.0 kv r) where
         pub inner_was : pair_of r ≡ y.kv.item.pair

@@ -57,8 +57,8 @@ module _ {w : List ℕ} {s : State} (o : Holds w s) {d : Handle} (y : LeafKv s d
   ready : PairAt H.nodes y.no (length y.left)
   ready = pair_ready y.ctx y.no y.left tt y.item y.right s.free H.stand
 
-  pub leaf-in : Has w (λ h ns. PairAt ns d.node.0 d.at.0)
-  leaf-in = rw (y.node_is, y.at_is) at (let z : Has w (λ h ns. PairAt ns y.no (length y.left)) = record { head = hd; nodes = H.nodes; arena = H.arena; holds = ready } in z)
+  pub leaf_in : Has w (λ h ns. PairAt ns d.node.0 d.at.0)
+  leaf_in = rw (y.node_is, y.at_is) at (let z : Has w (λ h ns. PairAt ns y.no (length y.left)) = record { head = hd; nodes = H.nodes; arena = H.arena; holds = ready } in z)
 
   pub there : LeafKv s (record { node = d.node; height = 0; at = d.at })
   there = record { ctx = y.ctx; no = y.no; left = y.left; item = y.item; right = y.right; whole = y.whole; node_is = y.node_is; at_is = y.at_is }

@@ -1,5 +1,6 @@
 // Removal of a pair (remove.rs), and delete behind a checked arena (map.rs's remove).
 #![tactic(auto)]
+
 ghost use Rattle.std.specs.Prelude.{true, ◌≡◌, ◌+◌, ◌≤◌, ◌<◌};
 ghost use Rattle.model.specs.Layout.{most, word_at, length_word, keys_word};
 ghost use Rattle.model.specs.State as model;

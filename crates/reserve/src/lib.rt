@@ -1,5 +1,6 @@
 // Reserve: a counter is spent when it is handed out, before its message is put.
 #![tactic(auto)]
+
 ghost use Rattle.std.specs.Prelude.{◌≡◌, ◌≤◌, length};
 ghost use Rattle.model.specs.Layout.{header_size};
 ghost use Rattle.model.specs.Mark as mark;

@@ -72,20 +72,20 @@ pub record Seeking (k : ℕ) (s : State) (n h : ℕ) : Type 0 where
   pub same : search k s.whole ≡ seek k (suc h) place.ctx place.tree
 
 module _ {w : List ℕ} {s : State} (o : Holds w s) (k n : ℕ) (ks : List ℕ) (q : ks ≡ part w (base n + keys_word) (word_at w n length_word)) (i : ℕ) where
-  in-keys : {h : ℕ} (p : At s n h) (r : IndexResult) → index_from k ks 0 ≡ r → index_from k (keys_of p.tree.rest) 0 ≡ r
-  in-keys p r e = subst (λ (l : List ℕ). index_from k l 0 ≡ r) (keys_are o p ks q) e
+  in_keys : {h : ℕ} (p : At s n h) (r : IndexResult) → index_from k ks 0 ≡ r → index_from k (keys_of p.tree.rest) 0 ≡ r
+  in_keys p r e = subst (λ (l : List ℕ). index_from k l 0 ≡ r) (keys_are o p ks q) e
 
   pub found : (h : ℕ) → Seeking k s n h → index_from k ks 0 ≡ kv i → Found (handle n h i) ≡ spotted (search k s.whole)
   found h y e =
       let p = y.place in
-      let z = seek_kv k p.ctx p.tree i (in-keys p (kv i) e) in
+      let z = seek_kv k p.ctx p.tree i (in_keys p (kv i) e) in
       sym (ap spotted (y.same ∙ z.2) ∙ (ap (λ (m : ℕ). Found (handle m h (length (open_at i [] p.tree.first p.tree.rest).left))) p.number ∙ ap (λ (j : ℕ). Found (handle n h j)) z.3))
 
   -- at a leaf the search ends
   pub ended : (h : ℕ) → Seeking k s n h → h ≡ 0 → index_from k ks 0 ≡ edge i → GoDown (handle n h i) ≡ spotted (search k s.whole)
   ended zero y z e =
       let p = y.place in
-      let d = seek_edge k p.ctx p.tree i (in-keys p (edge i) e) in
+      let d = seek_edge k p.ctx p.tree i (in_keys p (edge i) e) in
       sym (ap spotted (y.same ∙ d.0) ∙ ap GoDown (leaf_at p i d.1))
   ended (suc h) y z e = absurd (omega arith)
 
@@ -94,11 +94,11 @@ module _ {w : List ℕ} {s : State} (o : Holds w s) (k n : ℕ) (ks : List ℕ) 
   onward zero y z e m em = absurd (z refl)
   onward (suc h) y z e m em =
       let p = y.place in
-      let d = seek_edge k p.ctx p.tree i (in-keys p (edge i) e) in
+      let d = seek_edge k p.ctx p.tree i (in_keys p (edge i) e) in
       rw (sub-one (suc h)) (record { place = below_at o p i m d.1 em; same = y.same ∙ d.0 })
 
   pub edge_low : (h : ℕ) → Seeking k s n h → index_from k ks 0 ≡ edge i → i ≤ most
-  edge_low h y e = let p = y.place in omega (arith, (seek_edge k p.ctx p.tree i (in-keys p (edge i) e)).1, short_at (stands o p))
+  edge_low h y e = let p = y.place in omega (arith, (seek_edge k p.ctx p.tree i (in_keys p (edge i) e)).1, short_at (stands o p))
 
 -- ---- the fork of a range
 

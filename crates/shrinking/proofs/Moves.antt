@@ -125,12 +125,12 @@ module _ (ns : List NodeVal) (L : Links ns) (p i l r : ℕ) (B : Siblings ns p i
     pub merge_frees : Frees h (merged_links ns p i l r) free
     merge_frees = frees_kept free (p ∷ l ∷ r ∷ []) [] mid₂_kept z mid₂_states F
 
-    r-in : r < length mid₂
-    r-in = rw mid₂_kept.long B.right
+    r_in : r < length mid₂
+    r_in = rw mid₂_kept.long B.right
 
     back : Kept mid₂ (merge_nodes free ns p i l r) (r ∷ free) (r ∷ free)
     unfolding merge_nodes
-    back = return_kept mid₂ mid₂_links free merge_frees r r-in r_unled
+    back = return_kept mid₂ mid₂_links free merge_frees r r_in r_unled
 
     pub merge_kept : Kept ns (merge_nodes free ns p i l r) (p ∷ l ∷ r ∷ free) (r ∷ free)
     merge_kept =
@@ -139,7 +139,7 @@ module _ (ns : List NodeVal) (L : Links ns) (p i l r : ℕ) (B : Siblings ns p i
 
     pub merge_chain : All (Written (merge_nodes free ns p i l r)) (chain_blocks (returned r free))
     unfolding merge_nodes
-    merge_chain = return_chain mid₂ r r-in free F.rises (omega (arith, z r, one_self r)) merge_frees.chain
+    merge_chain = return_chain mid₂ r r_in free F.rises (omega (arith, z r, one_self r)) merge_frees.chain
 
     pub merge_parent : body_of (nth (merge_nodes free ns p i l r) p) ≡ record { state = P.state; pairs = remove_at P.pairs i; edges = remove_at P.edges (i + 1) }
     merge_parent = back.bodies p (omega (arith, z p, one_self p)) ∙ mid₂_re.bodies p ∙ ap body_of at_p

@@ -115,17 +115,17 @@ module _ (h : List ℕ) (ns : List NodeVal) (L : Links ns) (few : length ns ≤ 
       let b : times r (nth ns m).edges ≡ one r r + 0 = ap (times r) only in
       omega (arith, (links_edged ns L).once r, one_self r)
 
-  r-in : r < length ns₁
-  r-in = rw length-set child.within
+  r_in : r < length ns₁
+  r_in = rw length-set child.within
 
   k₂ : Kept ns₁ ns₂ [] (r ∷ [])
-  k₂ = link_kept ns₁ k₁.links r none 0 r-in (rw (body_state (k₁.bodies r (omega (arith, one_other m r (λ e. child_apart (sym e)))))) child.live) leads_r
+  k₂ = link_kept ns₁ k₁.links r none 0 r_in (rw (body_state (k₁.bodies r (omega (arith, one_other m r (λ e. child_apart (sym e)))))) child.live) leads_r
 
   leads_m : leads m ns₂ ≡ 0
   leads_m = omega (arith, relink_leads m ns₁ none 0 (r ∷ []), bare_leads ns L m o m, root_unled ns L few m root)
 
-  m-in : m < length ns₂
-  m-in = rw (k₂.long, k₁.long) o
+  m_in : m < length ns₂
+  m_in = rw (k₂.long, k₁.long) o
 
   k₁₂ : Kept ns ns₂ (m ∷ []) (m ∷ r ∷ [])
   k₁₂ = kept_trans (kept_more (m ∷ []) [] (m ∷ []) (m ∷ r ∷ []) (λ q z. z) (λ q z. refl) k₁) (kept_more [] (r ∷ []) (m ∷ []) (m ∷ r ∷ []) (λ q z. refl) (λ q z. omega arith) k₂)
@@ -145,7 +145,7 @@ module _ (h : List ℕ) (ns : List NodeVal) (L : Links ns) (few : length ns ≤ 
     pop_frees = rw only_is F₂
 
     k₃ : Kept ns₂ (return_node ns₂ free m) (m ∷ free) (m ∷ free)
-    k₃ = return_kept ns₂ k₂.links free F₂ m m-in leads_m
+    k₃ = return_kept ns₂ k₂.links free F₂ m m_in leads_m
 
     pub pop_kept : Kept ns (pop_nodes h free ns) (root_of h ∷ free) (root_of h ∷ r ∷ free)
     unfolding pop_nodes
@@ -156,10 +156,10 @@ module _ (h : List ℕ) (ns : List NodeVal) (L : Links ns) (few : length ns ≤ 
 
     pub pop_chain : All (Written (pop_nodes h free ns)) (chain_blocks (returned (root_of h) free))
     unfolding pop_nodes
-    pop_chain = rw only_is (return_chain ns₂ m m-in free F.rises (omega (arith, z m, one_self m)) F₂.chain)
+    pop_chain = rw only_is (return_chain ns₂ m m_in free F.rises (omega (arith, z m, one_self m)) F₂.chain)
 
     pub pop_root : link_of (nth (pop_nodes h free ns) r) ≡ record { parent = none; place = 0 }
     unfolding pop_nodes
     pop_root =
-        let e : link_of (nth ns₂ r) ≡ record { parent = none; place = 0 } = ap link_of (get_or-set_same ns₁ r (linked (nth ns₁ r) none 0) blank r-in) in
+        let e : link_of (nth ns₂ r) ≡ record { parent = none; place = 0 } = ap link_of (get_or-set_same ns₁ r (linked (nth ns₁ r) none 0) blank r_in) in
         rw only_is (k₃.roots r (omega (arith, z r, one_self r)) (link_parent e) ∙ e)

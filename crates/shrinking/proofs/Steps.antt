@@ -181,8 +181,8 @@ module _ {h : ℕ} (c : Ctx (suc (suc h))) (n : ℕ) (l : List (Item (Tree (suc 
   pub left_in : w.left.no < length ns
   left_in = T.within a.no (omega (arith, one_self a.no))
 
-  pub right-in : w.right.no < length ns
-  right-in = T.within b.no (omega (arith, one_self b.no))
+  pub right_in : w.right.no < length ns
+  right_in = T.within b.no (omega (arith, one_self b.no))
 
   pub left_long : length (nth ns w.left.no).pairs ≡ length w.left.rest
   left_long = ap length low_is.1 ∙ (length-map (numbered h a.rest) pair_in ∙ length-map a.rest _)
@@ -198,7 +198,7 @@ module _ {h : ℕ} (c : Ctx (suc (suc h))) (n : ℕ) (l : List (Item (Tree (suc 
     few = T.few;
     parent = parent_in;
     left = left_in;
-    right = right-in;
+    right = right_in;
     not_left = λ e. omega (arith, T.once a.no, one_self a.no, one_same n a.no e);
     not_right = λ e. omega (arith, T.once b.no, one_self b.no, one_same n b.no e);
     apart = λ e. omega (arith, T.once b.no, one_self b.no, one_same a.no b.no e);
@@ -214,7 +214,7 @@ module _ {h : ℕ} (c : Ctx (suc (suc h))) (n : ℕ) (l : List (Item (Tree (suc 
     place = place_in;
     branches = branching ns T.links n (fill_first Ls a.no) (fill_rest Ls a.no (y ∷ Rs)) parent_in h T.body;
     left = shaped ns T.links a.no (root_no h a.first) (numbered h a.rest) left_in h T.low.0;
-    right = shaped ns T.links b.no (root_no h b.first) (numbered h b.rest) right-in h T.high.0;
+    right = shaped ns T.links b.no (root_no h b.first) (numbered h b.rest) right_in h T.high.0;
     alike = high_is.0 ∙ sym low_is.0;
     not_left = siblings.not_left;
     not_right = siblings.not_right;
@@ -380,8 +380,8 @@ module _ {h : ℕ} (c : Ctx (suc (suc h))) (n : ℕ) (l : List (Item (Tree (suc 
 -- ---- a root without pairs is taken off
 
 module _ {h : ℕ} (t : Tree (suc (suc h))) (free : List ℕ) {ns : List NodeVal} (H : Hole ns (top {h = suc (suc h)}) t free) (bare : t.rest ≡ []) (hd : List ℕ) (er : header.root_of hd ≡ t.no) (ef : first_free hd ≡ first_or free) (en : free_nodes hd ≡ length free) where
-  no-in : t.no < length ns
-  no-in = H.within t.no (omega (arith, one_self t.no))
+  no_in : t.no < length ns
+  no_in = H.within t.no (omega (arith, one_self t.no))
 
   only : (nth ns t.no).edges ≡ t.first.no ∷ []
   only = (body_parts (nth ns t.no) _ H.tree.0).2 ∙ rw bare refl
@@ -398,18 +398,18 @@ module _ {h : ℕ} (t : Tree (suc (suc h))) (free : List ℕ) {ns : List NodeVal
   pub pop_ready : 1 ≤ header.height_of hd → length free < length ns → PopReady hd ns free
   pop_ready k u =
       record {
-        root = rw er no-in;
+        root = rw er no_in;
         no_pairs = rw er ((body_parts (nth ns t.no) _ H.tree.0).1 ∙ rw bare refl);
         one_edge = rw (er, only) refl;
         child = rw (er, only) (H.within t.first.no (omega (arith, one_self t.first.no)));
         height = k;
         out = rw er (omega (arith, H.once t.no, one_self t.no));
         used = u;
-        frees = pop_frees hd ns H.links H.few t.first.no (rw er no-in) (rw er only) (rw er (link_parent H.root)) free frees_here (rw er two_apart);
+        frees = pop_frees hd ns H.links H.few t.first.no (rw er no_in) (rw er only) (rw er (link_parent H.root)) free frees_here (rw er two_apart);
       }
 
   pub Kp : Kept ns (pop_nodes hd free ns) (t.no ∷ free) (t.no ∷ t.first.no ∷ free)
-  Kp = rw er at (pop_kept hd ns H.links H.few t.first.no (rw er no-in) (rw er only) (rw er (link_parent H.root)) free frees_here (rw er two_apart))
+  Kp = rw er at (pop_kept hd ns H.links H.few t.first.no (rw er no_in) (rw er only) (rw er (link_parent H.root)) free frees_here (rw er two_apart))
 
   pub pop_long : length (pop_nodes hd free ns) ≡ length ns
   pop_long = Kp.long
@@ -422,10 +422,10 @@ module _ {h : ℕ} (t : Tree (suc (suc h))) (free : List ℕ) {ns : List NodeVal
     few = rw Kp.long H.few;
     way = tt;
     tree = stands_kept ns (pop_nodes hd free ns) _ _ Kp (suc h) t.first (λ q. omega (arith, H.once q)) H.tree.1;
-    chain = rw er at (pop_chain hd ns H.links H.few t.first.no (rw er no-in) (rw er only) (rw er (link_parent H.root)) free frees_here (rw er two_apart));
+    chain = rw er at (pop_chain hd ns H.links H.few t.first.no (rw er no_in) (rw er only) (rw er (link_parent H.root)) free frees_here (rw er two_apart));
     rises = returned_rises t.no free (λ q. omega (arith, H.once q)) H.rises;
     links = Kp.links;
-    root = pop_root hd ns H.links H.few t.first.no (rw er no-in) (rw er only) (rw er (link_parent H.root)) free frees_here (rw er two_apart);
+    root = pop_root hd ns H.links H.few t.first.no (rw er no_in) (rw er only) (rw er (link_parent H.root)) free frees_here (rw er two_apart);
     once = λ q. omega (arith, H.once q, returned_times t.no q free, bare_has q);
     within = λ q k. rw Kp.long (H.within q (omega (arith, returned_times t.no q free)));
     all = λ q k. omega (arith, H.all q (rw Kp.long at k), returned_times t.no q free, bare_has q);

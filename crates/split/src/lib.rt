@@ -1,5 +1,6 @@
 // A tree cut along the way to a leaf edge, from the leaf up (split.rs): each node keeps what is left of the way.
 #![tactic(auto)]
+
 ghost use Rattle.std.specs.Prelude.{◌≡◌, List, ℕ, ◌+◌, ◌≤◌, ◌<◌, length, take};
 ghost use Rattle.model.specs.Layout.{node_size, header, height_word, NodeVal, nth, Arena};
 ghost use Rattle.node.specs.Fields.{Fields, Column, start_of, room_of, column, row, Stored};

@@ -51,8 +51,8 @@ module _ {h : ℕ} (f : Frame (Tree h)) (c : Ctx (suc h)) (t : Tree h) (free : L
         all = λ m u. omega (arith, H.all m u, same_has m);
       }
 
-  pub zoom-in : {ns : List NodeVal} → Hole ns c (fill f.no f.left t f.right) free → Hole ns (under f c) t free
-  zoom-in {ns} H =
+  pub zoom_in : {ns : List NodeVal} → Hole ns c (fill f.no f.left t f.right) free → Hole ns (under f c) t free
+  zoom_in {ns} H =
       let s = H.tree in
       let p = parts_fill (Stands ns h) f.no f.left t f.right s.1 s.2 in
       record {
@@ -74,7 +74,7 @@ close (under f c) t free H = close c (fill f.no f.left t f.right) free (zoom_out
 
 pub enter : {ns : List NodeVal} {h : ℕ} (c : Ctx h) (t : Tree h) (free : List ℕ) → Closed ns (plug c t) free → Hole ns c t free
 enter top t free H = H
-enter (under f c) t free H = zoom-in f c t free (enter c (fill f.no f.left t f.right) free H)
+enter (under f c) t free H = zoom_in f c t free (enter c (fill f.no f.left t f.right) free H)
 
 -- ---- blocks and bodies
 

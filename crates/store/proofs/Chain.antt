@@ -118,14 +118,14 @@ module _ {w h : List ℕ} {ns : List NodeVal} (a : Arena w h ns) (free : List �
     abbrev some : (return_node ns free n ≡ set (set ns n (free_val (nth ns p).parent)) p (free_val n)) × (first_or (returned n free) ≡ first_or free) × (p < n) × (nth ns p ≡ free_val (nth ns p).parent)
     some = before_some ns n r.node p free e d r.frees.chain
 
-    pub before-in : p < length ns
-    before-in = omega (arith, some.2, r.node)
+    pub before_in : p < length ns
+    before_in = omega (arith, some.2, r.node)
 
     mid_is : (k : ℕ) → nth (set ns n (free_val k)) p ≡ free_val (nth ns p).parent
     mid_is k = get_or-set_other ns n p (free_val k) blank (λ z. omega (arith, some.2)) ∙ some.3
 
     pub before_bare : (k : ℕ) → (p < length (set ns n (free_val k))) × ((nth (set ns n (free_val k)) p).pairs ≡ []) × ((nth (set ns n (free_val k)) p).edges ≡ [])
-    before_bare k = (rw length-set before-in, rw (mid_is k) refl, rw (mid_is k) refl)
+    before_bare k = (rw length-set before_in, rw (mid_is k) refl, rw (mid_is k) refl)
 
     pub returned_behind : {w₂ : List ℕ} (first : ℕ) → first ≡ get_or w first_free_word 0 → Arena w₂ h (set (set ns n (free_val (nth ns p).parent)) p (free_val n)) → Arena (set (set w₂ first_free_word first) free_word left) (return_head h free n) (return_node ns free n)
     returned_behind first ef b = rw (ef ∙ first_is, some.0, some.1, ← left_is) (head_put (head_put b first_free_word (first_or free) (lit< tt)) free_word left (lit< tt))

@@ -22,9 +22,9 @@ use Rattle.store.specs.Links.{last_below, first_from, behind, return_node}
 -- ---- the last below n
 
 module _ (n : ℕ) where
-  pub last-in : (p : ℕ) (l : List ℕ) → 1 ≤ times (last_below n p l) (p ∷ l)
-  last-in p [] = omega (arith, one_same p p refl)
-  last-in p (x ∷ l) = go (ltb x n) (last-in x l)
+  pub last_in : (p : ℕ) (l : List ℕ) → 1 ≤ times (last_below n p l) (p ∷ l)
+  last_in p [] = omega (arith, one_same p p refl)
+  last_in p (x ∷ l) = go (ltb x n) (last_in x l)
     where
       go : (b : Bool) → 1 ≤ times (last_below n x l) (x ∷ l) → 1 ≤ times (cond b (last_below n x l) p) (p ∷ x ∷ l)
       go true ih = omega arith
@@ -134,7 +134,7 @@ module _ (ns : List NodeVal) (n : ℕ) (o : n < length ns) where
   return_cases P (x ∷ free) f g = go (ltb x n) refl
     where
       go : (b : Bool) → ltb x n ≡ b → P (cond b (behind ns n x free) (set ns n (free_val x)))
-      go true e = g (first_from n free) (last_below n x free) (last-in n x free) (last_low n x free (ltb-true x n e))
+      go true e = g (first_from n free) (last_below n x free) (last_in n x free) (last_low n x free (ltb-true x n e))
       go false e = f x
 
   pub return_long : (free : List ℕ) → length (return_node ns free n) ≡ length ns

@@ -1,5 +1,6 @@
 // Nodes taken and returned, and the links from children to their parent.
 #![tactic(auto)]
+
 ghost use Rattle.std.specs.Prelude.{◌≡◌, List, [], ℕ, ◌<◌, ◌≤◌, length, set};
 ghost use Rattle.model.specs.Layout.{none, NodeVal, nth, Arena};
 ghost use Rattle.model.specs.Nodes.{taken};

@@ -1,5 +1,6 @@
 // One pass over all nodes, from the last: the nodes right of a cut, and those that were free before it, become the free chain.
 #![tactic(auto)]
+
 ghost use Rattle.std.specs.Prelude.{◌≡◌, List, ℕ, ◌≤◌, ◌<◌, length, set};
 ghost use Rattle.model.specs.Layout.{node_size, node_words, largest_count, header, count_word, NodeVal, nth, Arena};
 ghost use Rattle.model.specs.Words.{free_val};

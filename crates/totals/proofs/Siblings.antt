@@ -30,7 +30,7 @@ use Rattle.standing.specs.Standing.{numbered, Hole, Beside}
 use Rattle.standing.specs.Totals.{totals, due, TotalsBut, Totals, recount}
 use Rattle.standing.proofs.Leads.{one_self, link_parent}
 use Rattle.standing.proofs.Totals.{changed_but, recount_up, put_other}
-use Rattle.shrinking.proofs.Steps.{shaped, right-in, K, Kv, Kp, merge_step, pop_step}
+use Rattle.shrinking.proofs.Steps.{shaped, right_in, K, Kv, Kp, merge_step, pop_step}
 use Rattle.totals.proofs.Settling.{due_flat, root_inside, hangs, part_few, right_kept, right_hole, hole_part, hole_kept, part_out}
 use Rattle.totals.specs.Settling.{above, ample, Settles, Settled}
 use Rattle.node.specs.Reading.{Has}
@@ -124,7 +124,7 @@ module _ {h : ℕ} (c : Ctx (suc (suc h))) (n : ℕ) (l : List (Item (Tree (suc 
       let m = merge_nodes free ns n (length l) w.left.no w.right.no in
       let k = K c n l w r free B hd ef en in
       changed_but ns m (w.left.no ∷ n ∷ []) (w.right.no ∷ free) k.links (λ q u z. k.bodies q (omega arith))
-      (λ q u. merge_total free ns n (length l) w.left.no w.right.no q (right-in c n l w r free B) u)
+      (λ q u. merge_total free ns n (length l) w.left.no w.right.no q (right_in c n l w r free B) u)
       (λ q u. chain_free m (returned w.right.no free) (merge_step c n l w r free B hd ef en).chain q (omega (arith, returned_times w.right.no q free))) T
 
   -- pairs moved: those of all three

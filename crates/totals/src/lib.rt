@@ -1,5 +1,6 @@
 // The counts of the pairs below each node: added up from the nodes just below, and set right.
 #![tactic(auto)]
+
 ghost use Rattle.std.specs.Prelude.{◌≡◌, List, ℕ, ◌+◌, ◌-◌, ◌≤◌, ◌<◌, length};
 ghost use Rattle.model.specs.Layout.{most, header, height_word, state_word, length_word, total_word, word_at, NodeVal, nth, Arena};
 ghost use Rattle.node.specs.Reading.{Within, Has};

@@ -3,7 +3,7 @@
 use Prim.Native.Nat.{◌<◌}
 use mathlib.Core.Path.{refl}
 use native.Mathlib.Omega.{arith}
-use Rattle.appending.proofs.Stocks.{stock_starts, stocks-in, stock_step, stock_ends, pushed_long}
+use Rattle.appending.proofs.Stocks.{stock_starts, stocks_in, stock_step, stock_ends, pushed_long}
 use Rattle.append.proofs.fix_right_border_of_plentiful.Goals as goal
 
 pub bounds-a-3 : goal.bounds-a-3
@@ -19,7 +19,7 @@ pub stock_right_child-node-requires : goal.stock_right_child-node-requires
 stock_right_child-node-requires c =
     let p = c.requires in
     let l : 0 < c.loop-height.height = omega (arith, c.loop-height-test.true) in
-    stocks-in _ l (c.loop-height.invariant.1 _ _ _ p.pushed)
+    stocks_in _ l (c.loop-height.invariant.1 _ _ _ p.pushed)
 
 pub overflow_sub-height : goal.overflow_sub-height
 overflow_sub-height c = omega (arith, c.loop-height-test.true)

@@ -4,11 +4,11 @@ use mathlib.Core.Path.{refl}
 use Rattle.model.specs.State.{formatted}
 use Rattle.model.specs.Load.{pairs_of}
 use Rattle.standing.specs.Heads.{rest_of}
-use Rattle.appending.proofs.Finish.{begins, begins-in, half_is, sound_with}
+use Rattle.appending.proofs.Finish.{begins, begins_in, half_is, sound_with}
 use Rattle.append.proofs.load_marked.Goals as goal
 
 pub bulk_push-requires : goal.bulk_push-requires
-bulk_push-requires c = begins-in c.requires.loads
+bulk_push-requires c = begins_in c.requires.loads
 
 pub finish-requires : goal.finish-requires
 finish-requires c = let q = c.requires in record { rest = _; pairs = pairs_of c.args.run.now; ended = c.bulk_push.ensures _ (begins q.loads) }

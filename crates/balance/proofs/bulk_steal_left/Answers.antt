@@ -10,7 +10,7 @@ use Rattle.node.specs.Fields.{edge_column}
 use Rattle.node.specs.Reading.{pair_of, pair_at}
 use Rattle.node.proofs.Fields.{stored}
 use Rattle.node.proofs.Reading.{within}
-use Rattle.internal.proofs.Edges.{edges-in, edges_put}
+use Rattle.internal.proofs.Edges.{edges_in, edges_put}
 use Rattle.balance.specs.Moves.{edges_with, three, StealReady, moved_bodies}
 use Rattle.balance.proofs.Shapes.{shape_here, edges_with_lem, edges_here}
 use Rattle.balance.proofs.Moving.{Leaves, P₁, moved_pairs, node_l₄, node_r₄, edges_l₄, edges_r₄, to_bodies, links_r, none_left}
@@ -22,8 +22,8 @@ use Rattle.balance.proofs.bulk_steal_left.Goals.{After-edges_with-right_edges, A
 abbrev kept : List NodeVal → ℕ → ℕ → ℕ
 kept ns l c = length (nth ns l).pairs - c
 
-kept-is : {ns : List NodeVal} {p i l r c : ℕ} → StealReady ns p i l r l r c → kept ns l c + c ≡ length (nth ns l).pairs
-kept-is q = omega (arith, q.has)
+kept_is : {ns : List NodeVal} {p i l r c : ℕ} → StealReady ns p i l r l r c → kept ns l c + c ≡ length (nth ns l).pairs
+kept_is q = omega (arith, q.has)
 
 -- the numbers that were read
 counts : (c : After-edges_with-right_edges) → let x = c.args in (h : List ℕ) (ns : List NodeVal) → StealReady ns x.parent.0 x.at.0 x.left.0 x.right.0 x.left.0 x.right.0 x.count → Arena x.a.now h ns → (c.len.result - x.count ≡ kept ns x.left.0 x.count) × (c.edges_with-left_edges.result ≡ edges_with (nth ns x.left.0).state (kept ns x.left.0 x.count + 1)) × (c.edges_with-moved.result ≡ edges_with (nth ns x.left.0).state x.count) × (c.edges_with-right_edges.result ≡ length (nth ns x.right.0).edges)
@@ -37,27 +37,27 @@ counts c h ns q a =
       edges_here b.right a _ _ c.len-old_right_len.ensures c.edges_with-right_edges.ensures,
     )
 
-st₁ : (c : After-remove-up) → let x = c.args in (h : List ℕ) (ns : List NodeVal) → (q : StealReady ns x.parent.0 x.at.0 x.left.0 x.right.0 x.left.0 x.right.0 x.count) → Arena x.a.now h ns → (pair_of c.remove-up.result ≡ pair_at (nth ns x.left.0).pairs (kept ns x.left.0 x.count)) × Arena c.remove-up.new.a h (three ns x.parent.0 x.left.0 x.right.0 (nth ns x.parent.0) (L₁ q _ (kept-is q)) (nth ns x.right.0))
+st₁ : (c : After-remove-up) → let x = c.args in (h : List ℕ) (ns : List NodeVal) → (q : StealReady ns x.parent.0 x.at.0 x.left.0 x.right.0 x.left.0 x.right.0 x.count) → Arena x.a.now h ns → (pair_of c.remove-up.result ≡ pair_at (nth ns x.left.0).pairs (kept ns x.left.0 x.count)) × Arena c.remove-up.new.a h (three ns x.parent.0 x.left.0 x.right.0 (nth ns x.parent.0) (L₁ q _ (kept_is q)) (nth ns x.right.0))
 st₁ c h ns q a =
     let k = counts (at-After-remove-up c).After-edges_with-right_edges h ns q a in
-    let r = rw k.0 at (c.remove-up.ensures h ns (rw k.0 (left_ready₁ q _ (kept-is q))) a) in
-    (r.0, rw (to_left₁ q _ (kept-is q)) at r.1)
+    let r = rw k.0 at (c.remove-up.ensures h ns (rw k.0 (left_ready₁ q _ (kept_is q))) a) in
+    (r.0, rw (to_left₁ q _ (kept_is q)) at r.1)
 
-st₂ : (c : After-replace_kv-down) → let x = c.args in (h : List ℕ) (ns : List NodeVal) → (q : StealReady ns x.parent.0 x.at.0 x.left.0 x.right.0 x.left.0 x.right.0 x.count) → Arena x.a.now h ns → (pair_of c.replace_kv-down.result ≡ pair_at (nth ns x.parent.0).pairs x.at.0) × Arena c.replace_kv-down.new.a h (three ns x.parent.0 x.left.0 x.right.0 (P₁ ns x.parent.0 x.at.0 x.left.0 x.right.0 (kept ns x.left.0 x.count)) (L₁ q _ (kept-is q)) (nth ns x.right.0))
+st₂ : (c : After-replace_kv-down) → let x = c.args in (h : List ℕ) (ns : List NodeVal) → (q : StealReady ns x.parent.0 x.at.0 x.left.0 x.right.0 x.left.0 x.right.0 x.count) → Arena x.a.now h ns → (pair_of c.replace_kv-down.result ≡ pair_at (nth ns x.parent.0).pairs x.at.0) × Arena c.replace_kv-down.new.a h (three ns x.parent.0 x.left.0 x.right.0 (P₁ ns x.parent.0 x.at.0 x.left.0 x.right.0 (kept ns x.left.0 x.count)) (L₁ q _ (kept_is q)) (nth ns x.right.0))
 st₂ c h ns q a =
     let s = st₁ (at-After-replace_kv-down c).After-remove-up h ns q a in
-    let r = c.replace_kv-down.ensures h _ (left_ready₂ q _ (kept-is q)) s.1 in
-    (r.0 ∙ ap (λ (v : NodeVal). pair_at v.pairs c.args.at.0) (left_parent q _ (kept-is q)), rw (to_left₂ q _ (kept-is q) _ s.0) at r.1)
+    let r = c.replace_kv-down.ensures h _ (left_ready₂ q _ (kept_is q)) s.1 in
+    (r.0 ∙ ap (λ (v : NodeVal). pair_at v.pairs c.args.at.0) (left_parent q _ (kept_is q)), rw (to_left₂ q _ (kept_is q) _ s.0) at r.1)
 
-st₃ : (c : After-insert_fit) → let x = c.args in (h : List ℕ) (ns : List NodeVal) → (q : StealReady ns x.parent.0 x.at.0 x.left.0 x.right.0 x.left.0 x.right.0 x.count) → Arena x.a.now h ns → Arena c.insert_fit.new.a h (three ns x.parent.0 x.left.0 x.right.0 (P₁ ns x.parent.0 x.at.0 x.left.0 x.right.0 (kept ns x.left.0 x.count)) (L₁ q _ (kept-is q)) (R₁ q _ (kept-is q)))
+st₃ : (c : After-insert_fit) → let x = c.args in (h : List ℕ) (ns : List NodeVal) → (q : StealReady ns x.parent.0 x.at.0 x.left.0 x.right.0 x.left.0 x.right.0 x.count) → Arena x.a.now h ns → Arena c.insert_fit.new.a h (three ns x.parent.0 x.left.0 x.right.0 (P₁ ns x.parent.0 x.at.0 x.left.0 x.right.0 (kept ns x.left.0 x.count)) (L₁ q _ (kept_is q)) (R₁ q _ (kept_is q)))
 st₃ c h ns q a =
     let s = st₂ (at-After-insert_fit c).After-replace_kv-down h ns q a in
-    rw (to_left₃ q _ (kept-is q) _ s.0) at (c.insert_fit.ensures h _ (left_ready₃ q _ (kept-is q)) s.1)
+    rw (to_left₃ q _ (kept_is q) _ s.0) at (c.insert_fit.ensures h _ (left_ready₃ q _ (kept_is q)) s.1)
 
 st₄ : (c : After-move_last_pairs) → let x = c.args in Leaves x.a.now c.move_last_pairs.new.a x.parent.0 x.at.0 x.left.0 x.right.0 x.left.0 x.right.0 x.count (λ ns. moved_pairs ns x.parent.0 x.at.0 x.left.0 x.right.0 (kept ns x.left.0 x.count))
 st₄ c h ns q a =
     let k = counts (at-After-move_last_pairs c).After-edges_with-right_edges h ns q a in
-    rw (to_left₄ q _ (kept-is q)) at (rw k.0 at (c.move_last_pairs.ensures h _ (rw k.0 (left_ready₄ q _ (kept-is q))) (st₃ (at-After-move_last_pairs c).After-insert_fit h ns q a)))
+    rw (to_left₄ q _ (kept_is q)) at (rw k.0 at (c.move_last_pairs.ensures h _ (rw k.0 (left_ready₄ q _ (kept_is q))) (st₃ (at-After-move_last_pairs c).After-insert_fit h ns q a)))
 
 st₅ : (c : After-move_last) → let x = c.args in Leaves x.a.now c.move_last.new.a x.parent.0 x.at.0 x.left.0 x.right.0 x.left.0 x.right.0 x.count (λ ns. moved_bodies ns x.parent.0 x.at.0 x.left.0 x.right.0 (kept ns x.left.0 x.count))
 st₅ c h ns q a =
@@ -66,9 +66,9 @@ st₅ c h ns q a =
     let m = kept ns x.left.0 x.count in
     let k = counts (at-After-move_last c).After-edges_with-right_edges h ns q a in
     let s = moved_pairs ns x.parent.0 x.at.0 x.left.0 x.right.0 m in
-    let f = left_fits q m (kept-is q) _ _ k.1 k.2 in
-    let d = c.move_last.ensures h _ edge_column (edges-in s x.left.0 _ (node_l₄ b m) (left_edges q m (kept-is q) _ _ k.1 k.2 ∙ sym (ap length (edges_l₄ b m)))) (edges-in s x.right.0 _ (node_r₄ b m) (k.3 ∙ sym (ap length (edges_r₄ b m)))) (omega arith) (stored (st₄ (at-After-move_last c).After-move_last_pairs h ns q a)) in
-    rw (to_bodies b m (λ (t u : List ℕ). take c.edges_with-left_edges.result t) (λ (t u : List ℕ). drop c.edges_with-left_edges.result t ++ u) (left_stay q m (kept-is q) _ _ k.1 k.2) (left_go q m (kept-is q) _ _ k.1 k.2)) at (edges_put s x.left.0 x.right.0 (λ (t u : List ℕ). take c.edges_with-left_edges.result t) (λ (t u : List ℕ). drop c.edges_with-left_edges.result t ++ u) d)
+    let f = left_fits q m (kept_is q) _ _ k.1 k.2 in
+    let d = c.move_last.ensures h _ edge_column (edges_in s x.left.0 _ (node_l₄ b m) (left_edges q m (kept_is q) _ _ k.1 k.2 ∙ sym (ap length (edges_l₄ b m)))) (edges_in s x.right.0 _ (node_r₄ b m) (k.3 ∙ sym (ap length (edges_r₄ b m)))) (omega arith) (stored (st₄ (at-After-move_last c).After-move_last_pairs h ns q a)) in
+    rw (to_bodies b m (λ (t u : List ℕ). take c.edges_with-left_edges.result t) (λ (t u : List ℕ). drop c.edges_with-left_edges.result t ++ u) (left_stay q m (kept_is q) _ _ k.1 k.2) (left_go q m (kept_is q) _ _ k.1 k.2)) at (edges_put s x.left.0 x.right.0 (λ (t u : List ℕ). take c.edges_with-left_edges.result t) (λ (t u : List ℕ). drop c.edges_with-left_edges.result t ++ u) d)
 
 pub len-requires : goal.len-requires
 len-requires c = within c.requires.arena _ c.requires.holds.beside.left.node
@@ -95,25 +95,25 @@ pub remove-up-requires : goal.remove-up-requires
 remove-up-requires c =
     let p = c.requires in
     let q = p.holds in
-    record { head = p.head; nodes = p.nodes; arena = p.arena; holds = rw (counts (goal.at.remove-up-requires c).After-edges_with-right_edges p.head p.nodes q p.arena).0 (left_ready₁ q _ (kept-is q)) }
+    record { head = p.head; nodes = p.nodes; arena = p.arena; holds = rw (counts (goal.at.remove-up-requires c).After-edges_with-right_edges p.head p.nodes q p.arena).0 (left_ready₁ q _ (kept_is q)) }
 
 pub replace_kv-down-requires : goal.replace_kv-down-requires
 replace_kv-down-requires c =
     let p = c.requires in
     let q = p.holds in
-    record { head = p.head; nodes = _; arena = (st₁ (goal.at.replace_kv-down-requires c).After-remove-up p.head p.nodes q p.arena).1; holds = left_ready₂ q _ (kept-is q) }
+    record { head = p.head; nodes = _; arena = (st₁ (goal.at.replace_kv-down-requires c).After-remove-up p.head p.nodes q p.arena).1; holds = left_ready₂ q _ (kept_is q) }
 
 pub insert_fit-requires : goal.insert_fit-requires
 insert_fit-requires c =
     let p = c.requires in
     let q = p.holds in
-    record { head = p.head; nodes = _; arena = (st₂ (goal.at.insert_fit-requires c).After-replace_kv-down p.head p.nodes q p.arena).1; holds = left_ready₃ q _ (kept-is q) }
+    record { head = p.head; nodes = _; arena = (st₂ (goal.at.insert_fit-requires c).After-replace_kv-down p.head p.nodes q p.arena).1; holds = left_ready₃ q _ (kept_is q) }
 
 pub move_last_pairs-requires : goal.move_last_pairs-requires
 move_last_pairs-requires c =
     let p = c.requires in
     let q = p.holds in
-    record { head = p.head; nodes = _; arena = st₃ (goal.at.move_last_pairs-requires c).After-insert_fit p.head p.nodes q p.arena; holds = rw (counts (goal.at.move_last_pairs-requires c).After-edges_with-right_edges p.head p.nodes q p.arena).0 (left_ready₄ q _ (kept-is q)) }
+    record { head = p.head; nodes = _; arena = st₃ (goal.at.move_last_pairs-requires c).After-insert_fit p.head p.nodes q p.arena; holds = rw (counts (goal.at.move_last_pairs-requires c).After-edges_with-right_edges p.head p.nodes q p.arena).0 (left_ready₄ q _ (kept_is q)) }
 
 pub move_last-requires : goal.move_last-requires
 move_last-requires c =
@@ -121,25 +121,25 @@ move_last-requires c =
     let q = p.holds in
     let k = counts (goal.at.move_last-requires c).After-edges_with-right_edges p.head p.nodes q p.arena in
     let s = st₄ (goal.at.move_last-requires c).After-move_last_pairs p.head p.nodes q p.arena in
-    let e = left_edges q _ (kept-is q) _ _ k.1 k.2 in
-    let f = left_fits q _ (kept-is q) _ _ k.1 k.2 in record { within = (within s _ (node_l₄ q.beside _), within s _ (node_r₄ q.beside _), q.beside.apart); count_bound = (omega (arith, shape_here q.beside.left p.arena), omega arith) }
+    let e = left_edges q _ (kept_is q) _ _ k.1 k.2 in
+    let f = left_fits q _ (kept_is q) _ _ k.1 k.2 in record { within = (within s _ (node_l₄ q.beside _), within s _ (node_r₄ q.beside _), q.beside.apart); count_bound = (omega (arith, shape_here q.beside.left p.arena), omega arith) }
 
 pub overflow_add-right_edges : goal.overflow_add-right_edges
 overflow_add-right_edges c =
     let p = c.requires in
     let q = p.holds in
     let k = counts (goal.at.overflow_add-right_edges c).After-edges_with-right_edges p.head p.nodes q p.arena in
-    omega (arith, left_fits q _ (kept-is q) _ _ k.1 k.2)
+    omega (arith, left_fits q _ (kept_is q) _ _ k.1 k.2)
 
 pub correct_childrens_parent_links-requires : goal.correct_childrens_parent_links-requires
 correct_childrens_parent_links-requires c =
     let p = c.requires in
     let q = p.holds in
     let k = counts (goal.at.correct_childrens_parent_links-requires c).After-edges_with-right_edges p.head p.nodes q p.arena in
-    (omega arith, record { head = p.head; nodes = _; arena = st₅ (goal.at.correct_childrens_parent_links-requires c).After-move_last p.head p.nodes q p.arena; holds = links_r q.beside _ _ (left_count q _ (kept-is q) _ _ k.1 k.2 _ k.3) })
+    (omega arith, record { head = p.head; nodes = _; arena = st₅ (goal.at.correct_childrens_parent_links-requires c).After-move_last p.head p.nodes q p.arena; holds = links_r q.beside _ _ (left_count q _ (kept_is q) _ _ k.1 k.2 _ k.3) })
 
 pub returns : goal.returns
 returns c =
     λ h ns q a.
     let k = counts (goal.at.returns c).After-edges_with-right_edges h ns q a in
-    rw (none_left q.beside _ (left_less q _ (kept-is q) _ _ k.1 k.2)) at (c.correct_childrens_parent_links.ensures h _ (links_r q.beside _ _ (left_count q _ (kept-is q) _ _ k.1 k.2 _ k.3)) (st₅ (goal.at.returns c).After-move_last h ns q a))
+    rw (none_left q.beside _ (left_less q _ (kept_is q) _ _ k.1 k.2)) at (c.correct_childrens_parent_links.ensures h _ (links_r q.beside _ _ (left_count q _ (kept_is q) _ _ k.1 k.2 _ k.3)) (st₅ (goal.at.returns c).After-move_last h ns q a))

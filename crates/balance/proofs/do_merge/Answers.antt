@@ -11,7 +11,7 @@ use Rattle.node.specs.Reading.{pair_of, pair_at}
 use Rattle.node.proofs.Fields.{stored}
 use Rattle.node.proofs.Reading.{within, len_is}
 use Rattle.store.specs.Links.{relink_from}
-use Rattle.internal.proofs.Edges.{edges-in, edge_removed, edges_put}
+use Rattle.internal.proofs.Edges.{edges_in, edge_removed, edges_put}
 use Rattle.balance.specs.Moves.{MergeReady, merged_bodies, merged_links, merge_nodes}
 use Rattle.balance.proofs.Shapes.{shape_here, edges_here}
 use Rattle.balance.proofs.Merging.{Leaves, s₁, s₂, s₃, s₄, to_s₁, to_s₂, to_s₃, to_s₄, to_bodies, ready₁, ready₂, ready₃, node₃, edges₃, node₄_l, node₄_r, edges₄_l, edges₄_r, links_fit, links_l, links_p, to_return}
@@ -52,14 +52,14 @@ st₄ c h ns free q a =
     let k = counts (at-After-remove_word c).After-edges_with-right_edges h ns free q a in
     let s = s₃ ns x.parent.0 x.at.0 x.left.0 x.right.0 in
     let e = ap length (edges₃ q) in
-    rw (to_s₄ q) at (edge_removed s x.parent.0 (node₃ q) _ (c.remove_word.ensures h _ edge_column (edges-in s x.parent.0 _ (node₃ q) (omega arith)) (stored (st₃ (at-After-remove_word c).After-move_first_pairs h ns free q a))).1)
+    rw (to_s₄ q) at (edge_removed s x.parent.0 (node₃ q) _ (c.remove_word.ensures h _ edge_column (edges_in s x.parent.0 _ (node₃ q) (omega arith)) (stored (st₃ (at-After-remove_word c).After-move_first_pairs h ns free q a))).1)
 
 st₅ : (c : After-move_first) → let x = c.args in Leaves x.a.now c.move_first.new.a x.parent.0 x.at.0 x.left.0 x.right.0 (λ h ns. merged_bodies ns x.parent.0 x.at.0 x.left.0 x.right.0)
 st₅ c h ns free q a =
     let x = c.args in
     let k = counts (at-After-move_first c).After-edges_with-right_edges h ns free q a in
     let s = s₄ ns x.parent.0 x.at.0 x.left.0 x.right.0 in
-    let m = c.move_first.ensures h _ edge_column (edges-in s x.left.0 _ (node₄_l q) (k.3 ∙ sym (ap length (edges₄_l q)))) (edges-in s x.right.0 _ (node₄_r q) (k.4 ∙ sym (ap length (edges₄_r q)))) (omega (arith, links_fit q)) (stored (st₄ (at-After-move_first c).After-remove_word h ns free q a)) in
+    let m = c.move_first.ensures h _ edge_column (edges_in s x.left.0 _ (node₄_l q) (k.3 ∙ sym (ap length (edges₄_l q)))) (edges_in s x.right.0 _ (node₄_r q) (k.4 ∙ sym (ap length (edges₄_r q)))) (omega (arith, links_fit q)) (stored (st₄ (at-After-move_first c).After-remove_word h ns free q a)) in
     rw (to_bodies q _ k.4) at (edges_put s x.left.0 x.right.0 (λ (t u : List ℕ). t ++ take c.edges_with-right_edges.result u) (λ (t u : List ℕ). drop c.edges_with-right_edges.result u) m)
 
 st₆ : (c : After-correct_childrens_parent_links) → let x = c.args in Leaves x.a.now c.correct_childrens_parent_links.new.a x.parent.0 x.at.0 x.left.0 x.right.0 (λ h ns. relink_from (merged_bodies ns x.parent.0 x.at.0 x.left.0 x.right.0) x.left.0 (length (nth ns x.left.0).edges))

@@ -8,7 +8,7 @@ use Rattle.model.specs.Nodes.{Grown}
 use Rattle.standing.specs.Heads.{Rest}
 use Rattle.fix.proofs.Balances.{sides_known, merges_is, merges}
 use Rattle.border.specs.Borders.{Descending}
-use Rattle.border.proofs.Sides.{Stocking, stock_merged, child_word, stock_stays, stock-in, stock_moved, right_known, right_stocking}
+use Rattle.border.proofs.Sides.{Stocking, stock_merged, child_word, stock_stays, stock_in, stock_moved, right_known, right_stocking}
 use Rattle.border.proofs.fix_right_child.Goals as goal
 use Rattle.border.proofs.fix_right_child.Goals.{After-edge-right}
 
@@ -49,7 +49,7 @@ pub bulk_steal_left-requires : goal.bulk_steal_left-requires
 bulk_steal_left-requires c =
     let p = c.requires in
     let q = stocked (goal.at.bulk_steal_left-requires c).After-edge-right _ _ _ p.coming in
-    stock-in q (sym (merges_is q.both) ∙ (sym c.can_merge.ensures ∙ c.if-can_merge.false)) _ (omega (arith, c.len-k.ensures, child_word q)) (omega (arith, c.if-k-gt-MIN_LEN.false, c.len-k.ensures, child_word q))
+    stock_in q (sym (merges_is q.both) ∙ (sym c.can_merge.ensures ∙ c.if-can_merge.false)) _ (omega (arith, c.len-k.ensures, child_word q)) (omega (arith, c.if-k-gt-MIN_LEN.false, c.len-k.ensures, child_word q))
 
 pub returns : goal.returns
 returns c =

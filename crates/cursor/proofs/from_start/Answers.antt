@@ -7,7 +7,7 @@ use Rattle.model.specs.Promise.{Holds}
 use Rattle.model.proofs.Forward.{forward}
 use Rattle.navigate.specs.Places.{EdgeAt}
 use Rattle.walking.proofs.Spots.{seek_arrives}
-use Rattle.cursor.proofs.Moves.{start_edge, next-in}
+use Rattle.cursor.proofs.Moves.{start_edge, next_in}
 use Rattle.cursor.proofs.from_start.Goals as goal
 use Rattle.cursor.proofs.from_start.Goals.{After-lower_leaf_edge-edge}
 
@@ -22,7 +22,7 @@ pub arrive-requires : goal.arrive-requires
 arrive-requires c =
     let o = forward _ c.requires in
     let y = from (goal.at.arrive-requires c).After-lower_leaf_edge-edge o in
-    record { state = _; holds = o; there = record { spot = next_kv y.way; inside = next-in y; is = c.next_kv-to.ensures _ o y } }
+    record { state = _; holds = o; there = record { spot = next_kv y.way; inside = next_in y; is = c.next_kv-to.ensures _ o y } }
 
 pub returns : goal.returns
-returns c = λ s o. let y = from (goal.at.returns c).After-lower_leaf_edge-edge o in c.arrive.ensures s o (next_kv y.way) (next-in y) (c.next_kv-to.ensures s o y) ∙ sym (seek_arrives o c.args.changes c.args.start)
+returns c = λ s o. let y = from (goal.at.returns c).After-lower_leaf_edge-edge o in c.arrive.ensures s o (next_kv y.way) (next_in y) (c.next_kv-to.ensures s o y) ∙ sym (seek_arrives o c.args.changes c.args.start)

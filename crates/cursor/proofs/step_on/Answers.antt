@@ -7,7 +7,7 @@ use Rattle.model.specs.Promise.{Holds}
 use Rattle.model.proofs.Forward.{forward}
 use Rattle.navigate.specs.Places.{EdgeAt, KvAt}
 use Rattle.walking.proofs.Live.{live_at}
-use Rattle.cursor.proofs.Moves.{kv_of, edge_after, next-in, on_told}
+use Rattle.cursor.proofs.Moves.{kv_of, edge_after, next_in, on_told}
 use Rattle.cursor.proofs.step_on.Goals as goal
 use Rattle.cursor.proofs.step_on.Goals.{After-height_of-height, After-next_leaf_edge-edge, at-After-next_leaf_edge-edge}
 
@@ -34,7 +34,7 @@ pub arrive-requires : goal.arrive-requires
 arrive-requires c =
     let o = forward _ c.requires.0 in
     let y = from (goal.at.arrive-requires c).After-next_leaf_edge-edge o in
-    record { state = _; holds = o; there = record { spot = next_kv y.way; inside = next-in y; is = c.next_kv-to.ensures _ o y } }
+    record { state = _; holds = o; there = record { spot = next_kv y.way; inside = next_in y; is = c.next_kv-to.ensures _ o y } }
 
 pub returns : goal.returns
-returns c = λ s o. let y = from (goal.at.returns c).After-next_leaf_edge-edge o in c.arrive.ensures s o (next_kv y.way) (next-in y) (c.next_kv-to.ensures s o y) ∙ on_told (here (goal.at.returns c).After-height_of-height o) o c.args.changes
+returns c = λ s o. let y = from (goal.at.returns c).After-next_leaf_edge-edge o in c.arrive.ensures s o (next_kv y.way) (next_in y) (c.next_kv-to.ensures s o y) ∙ on_told (here (goal.at.returns c).After-height_of-height o) o c.args.changes

@@ -1,11 +1,11 @@
 -- `fix::bulk_steal_right` meets its contract.
 -- Assumes nothing.
 use Rattle.model.specs.Insert.{right}
-use Rattle.fix.proofs.Balances.{steal-in, steal_set, steal_set_right, steal_settle, steal_hole}
+use Rattle.fix.proofs.Balances.{steal_in, steal_set, steal_set_right, steal_settle, steal_hole}
 use Rattle.fix.proofs.bulk_steal_right.Goals as goal
 
 pub bulk_steal_right-requires : goal.bulk_steal_right-requires
-bulk_steal_right-requires c = let u = c.requires in steal-in u.both right c.args.count u.some u.lent u.room
+bulk_steal_right-requires c = let u = c.requires in steal_in u.both right c.args.count u.some u.lent u.room
 
 pub set_right-requires : goal.set_right-requires
 set_right-requires c = let u = c.requires in steal_set u.both right c.args.count u.some u.lent u.room c.bulk_steal_right.ensures

@@ -17,7 +17,7 @@ edge-left-requires c =
     (k.0, omega (arith, k.1))
 
 pub returns-then-i-gt0 : goal.returns-then-i-gt0
-returns-then-i-gt0 c = λ g t m. chose_left m _ _ (sym c.ascend.ensures ∙ c.in-Edge.is) c.if-i-gt0.true _ c.edge-left.ensures _ refl
+returns-then-i-gt0 c = λ g t m. chose_left m _ _ (sym c.ascend.ensures ∙ c.in-Edge.is) (omega arith) _ c.edge-left.ensures _ refl
 
 pub edge-right-requires : goal.edge-right-requires
 edge-right-requires c =

@@ -8,7 +8,7 @@ use Rattle.model.specs.Insert.{left, right}
 use Rattle.standing.specs.Heads.{Rest}
 use Rattle.fix.specs.Repairs.{Mending}
 use Rattle.fix.proofs.Choices.{mending_within, mending_long}
-use Rattle.fix.proofs.Balances.{Pairing, sides_known, merges_is, merges, merge_held, lend-in, lend_held, enough, at_root, root_empty, left_pairing, right_pairing}
+use Rattle.fix.proofs.Balances.{Pairing, sides_known, merges_is, merges, merge_held, lend_in, lend_held, enough, at_root, root_empty, left_pairing, right_pairing}
 use Rattle.fix.proofs.fix_node_through_parent.Goals as goal
 use Rattle.fix.proofs.fix_node_through_parent.Goals.{After-right-1, After-right-in-Right-1}
 
@@ -42,7 +42,7 @@ bulk_steal_left-requires c =
     let p = c.requires in
     let m = p.mending in
     let q = left_of (goal.at.bulk_steal_left-requires c).After-right-1 p.rest p.end m in
-    lend-in q (sym (merges_is q.both) ∙ (sym c.can_merge.ensures ∙ c.if-can_merge.false)) _ (omega (arith, q.lacks, c.len-n.ensures, mending_long m))
+    lend_in q (sym (merges_is q.both) ∙ (sym c.can_merge.ensures ∙ c.if-can_merge.false)) _ (omega (arith, q.lacks, c.len-n.ensures, mending_long m))
 
 pub returns-in-Left : goal.returns-in-Left
 returns-in-Left c =
@@ -74,7 +74,7 @@ bulk_steal_right-requires c =
     let p = c.requires in
     let m = p.mending in
     let q = right_of (goal.at.bulk_steal_right-requires c).After-right-in-Right-1 p.rest p.end m in
-    lend-in q (sym (merges_is q.both) ∙ (sym c.can_merge-in-Right.ensures ∙ c.if-can_merge-2.false)) _ (omega (arith, q.lacks, c.len-n.ensures, mending_long m))
+    lend_in q (sym (merges_is q.both) ∙ (sym c.can_merge-in-Right.ensures ∙ c.if-can_merge-2.false)) _ (omega (arith, q.lacks, c.len-n.ensures, mending_long m))
 
 pub returns-in-Right : goal.returns-in-Right
 returns-in-Right c =

@@ -5,26 +5,26 @@ use Rattle.model.specs.State.{State}
 use Rattle.model.specs.Promise.{Holds}
 use Rattle.model.proofs.Forward.{forward}
 use Rattle.header.proofs.Headed.{headed}
-use Rattle.insert.proofs.Ends.{PairIn, GapIn, pair-in, gap-in, replace-in, replaced-in, lacking, enough, added-in}
+use Rattle.insert.proofs.Ends.{PairIn, GapIn, pair_in, gap_in, replace_in, replaced_in, lacking, enough, added_in}
 use Rattle.insert.proofs.put_pair.Goals as goal
 use Rattle.insert.proofs.put_pair.Goals.{In-Found, In-GoDown}
 
 -- the pair that was found
 there : (c : In-Found) (s : State) → Holds c.args.a.now s → PairIn c.args.kv.0 s c.in-Found.place
-there c s o = pair-in o _ _ (sym c.in-Found.is ∙ c.search_tree-found.ensures s o)
+there c s o = pair_in o _ _ (sym c.in-Found.is ∙ c.search_tree-found.ensures s o)
 
 -- the leaf edge where it is not
 absent : (c : In-GoDown) (s : State) → Holds c.args.a.now s → GapIn c.args.kv.0 s c.in-GoDown.edge
-absent c s o = gap-in o _ _ (sym c.in-GoDown.is ∙ c.search_tree-found.ensures s o)
+absent c s o = gap_in o _ _ (sym c.in-GoDown.is ∙ c.search_tree-found.ensures s o)
 
 pub replace_kv-old-requires : goal.replace_kv-old-requires
 replace_kv-old-requires c =
     let x = c in
     let o = forward _ x.requires in
-    replace-in o x.args.kv.0 x.args.kv.1 _ (there (goal.at.replace_kv-old-requires c).In-Found _ o)
+    replace_in o x.args.kv.0 x.args.kv.1 _ (there (goal.at.replace_kv-old-requires c).In-Found _ o)
 
 pub returns-in-Found : goal.returns-in-Found
-returns-in-Found c = λ s o. let x = c.args in replaced-in o x.kv.0 x.kv.1 _ (there (goal.at.returns-in-Found c).In-Found s o) _ _ c.replace_kv-old.ensures
+returns-in-Found c = λ s o. let x = c.args in replaced_in o x.kv.0 x.kv.1 _ (there (goal.at.returns-in-Found c).In-Found s o) _ _ c.replace_kv-old.ensures
 
 pub free_nodes-free-requires : goal.free_nodes-free-requires
 free_nodes-free-requires c = headed c.requires
@@ -57,4 +57,4 @@ returns-in-GoDown c =
     let n = c.nodes_needed-need.ensures s o y.edge in
     let l = c.if-free-need.false in
     let f = c.free_nodes-free.ensures in
-    added-in o x.kv.0 x.kv.1 _ y _ _ f n l _ (c.insert_recursing.ensures s o (record { edge = y.edge; room = enough o x.kv.0 x.kv.1 _ y _ _ f n l }))
+    added_in o x.kv.0 x.kv.1 _ y _ _ f n l _ (c.insert_recursing.ensures s o (record { edge = y.edge; room = enough o x.kv.0 x.kv.1 _ y _ _ f n l }))

@@ -5,7 +5,7 @@ use mathlib.Core.Path.{◌≡◌}
 use lib.Dec.{eqb}
 use Rattle.model.specs.Layout.{none}
 use Rattle.inspect.proofs.Decisions.{decided, refuted, decides_as, equal}
-use Rattle.inspect.proofs.Words.{chain_out, chain-in, chain_done, done_chain}
+use Rattle.inspect.proofs.Words.{chain_out, chain_in, chain_done, done_chain}
 use Rattle.formats.proofs.Bases.{size_least, sized_within}
 use borrow.Author.Rules.{rules}
 use Rattle.inspect.proofs.chain.Goals as goal
@@ -50,7 +50,7 @@ loop-left-preserved c =
     let some = c.loop-left-test.true in
     let f = c.own_free in
     let e = c.parent_of-next.ensures in (
-      (λ h. l.loop-left.invariant.0 (chain-in x.f x.a.now x.count l.loop-left.left l.loop-left.at some (record { inside = c.if-at-count.false; zero = decided f.result f.ensures c.if-not-own_free.false; rise = omega (arith, e, c.if-next-at.false) }) (rw e at h))),
+      (λ h. l.loop-left.invariant.0 (chain_in x.f x.a.now x.count l.loop-left.left l.loop-left.at some (record { inside = c.if-at-count.false; zero = decided f.result f.ensures c.if-not-own_free.false; rise = omega (arith, e, c.if-next-at.false) }) (rw e at h))),
       λ h. rw e (chain_out x.f x.a.now x.count l.loop-left.left l.loop-left.at some (l.loop-left.invariant.1 h)).1,
     )
 

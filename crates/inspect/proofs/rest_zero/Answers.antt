@@ -17,10 +17,10 @@ use borrow.Author.Rules.{rules}
 use Rattle.inspect.proofs.rest_zero.Invariants.{Ored}
 use Rattle.inspect.proofs.rest_zero.Goals as goal
 
-ored-more : (w : List ℕ) (b f t all x : ℕ) → t < most
+ored_more : (w : List ℕ) (b f t all x : ℕ) → t < most
     → let y = bit_or (get_or w (b + (keys_word + t)) 0) (get_or w (b + (values_word + t)) 0) in (f ≤ t → x ≡ y) × (t < f → x ≡ 0)
     → Ored w b f t all → Ored w b f (t + 1) (bit_or all x)
-ored-more w b f t all x l q o =
+ored_more w b f t all x l q o =
     let k = get_or w (b + (keys_word + t)) 0 in
     let v = get_or w (b + (values_word + t)) 0 in
     record {
@@ -44,7 +44,7 @@ pub bounds-a-b-in-loop-i : goal.bounds-a-b-in-loop-i
 bounds-a-b-in-loop-i c = let l = size_least c.args.f in search rules
 
 pub loop-i-preserved : goal.loop-i-preserved
-loop-i-preserved c = ored-more _ _ _ _ _ _ (omega arith) c.kept-all.ensures c.loop-i.invariant
+loop-i-preserved c = ored_more _ _ _ _ _ _ (omega arith) c.kept-all.ensures c.loop-i.invariant
 
 pub returns : goal.returns
 returns c =

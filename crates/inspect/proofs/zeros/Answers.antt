@@ -12,8 +12,8 @@ use Rattle.inspect.proofs.Decisions.{decides_as, equal}
 use Rattle.inspect.proofs.zeros.Invariants.{Ored}
 use Rattle.inspect.proofs.zeros.Goals as goal
 
-ored-more : (w : List ℕ) (b f t e all : ℕ) → t < e → Ored w b f t e all → Ored w b f (t + 1) e (bit_or all (get_or w (b + t) 0))
-ored-more w b f t e all l o =
+ored_more : (w : List ℕ) (b f t e all : ℕ) → t < e → Ored w b f t e all → Ored w b f (t + 1) e (bit_or all (get_or w (b + t) 0))
+ored_more w b f t e all l o =
     record {
       begun = omega (arith, o.begun);
       clear = λ z. clear_more w b f t (o.clear (or_left all (get_or w (b + t) 0) z)) (or_right all (get_or w (b + t) 0) z);
@@ -24,7 +24,7 @@ pub loop-k-init : goal.loop-k-init
 loop-k-init c = record { begun = omega arith; clear = λ e k l u. absurd (omega arith); none = λ z. refl }
 
 pub loop-k-preserved : goal.loop-k-preserved
-loop-k-preserved c = ored-more _ _ _ _ _ _ (omega arith) c.loop-k.invariant
+loop-k-preserved c = ored_more _ _ _ _ _ _ (omega arith) c.loop-k.invariant
 
 pub returns : goal.returns
 returns c =

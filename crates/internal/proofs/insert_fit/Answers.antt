@@ -11,7 +11,7 @@ use Rattle.node.specs.Reading.{pair_of}
 use Rattle.node.proofs.Fields.{stored}
 use Rattle.leaf.specs.Pairs.{insert_pair}
 use Rattle.internal.specs.Inner.{FitReady, fit_bodies, fit_nodes}
-use Rattle.internal.proofs.Edges.{edges-in, edge_inserted}
+use Rattle.internal.proofs.Edges.{edges_in, edge_inserted}
 use Rattle.internal.proofs.Stages.{fit_here, fit_node, fit_edges, fit_bodies_lem, fit_links}
 use Rattle.internal.proofs.insert_fit.Goals as goal
 use Rattle.internal.proofs.insert_fit.Goals.{After-insert_word}
@@ -23,7 +23,7 @@ bodies c h ns q a =
     let k = fit_here q a in
     let e = ap length (fit_edges q p) in
     let mid = insert_pair ns x.n.0 x.at.0 p in
-    let s = c.insert_word.ensures h _ edge_column (edges-in mid x.n.0 _ (fit_node q p) (omega (arith, c.len-count.ensures, q.branches.edges_are))) (omega (arith, c.len-count.ensures)) (stored (c.insert_fit.ensures h ns q.room a)) in
+    let s = c.insert_word.ensures h _ edge_column (edges_in mid x.n.0 _ (fit_node q p) (omega (arith, c.len-count.ensures, q.branches.edges_are))) (omega (arith, c.len-count.ensures)) (stored (c.insert_fit.ensures h ns q.room a)) in
     rw (fit_bodies_lem q p) at (edge_inserted mid x.n.0 (fit_node q p) _ _ s)
 
 pub len-count-requires : goal.len-count-requires

@@ -14,7 +14,7 @@ use Rattle.model.specs.Nodes.{taken}
 use Rattle.store.specs.Links.{with_edges, fresh, take_head, take_node}
 use Rattle.store.proofs.Chain.{take_in}
 use Rattle.internal.specs.Inner.{CrownReady, crown_nodes}
-use Rattle.internal.proofs.Edges.{edges-in, edge_inserted}
+use Rattle.internal.proofs.Edges.{edges_in, edge_inserted}
 use Rattle.internal.proofs.Stages.{top_edges, top_body}
 use Rattle.internal.proofs.new_internal.Goals as goal
 use Rattle.internal.proofs.new_internal.Goals.{After-insert_word, After-take_node-top, at-After-insert_word}
@@ -30,7 +30,7 @@ top c h ns free q a =
     let mid = take_node ns free internal in
     let o : taken free < length mid = rw length-set (take_in q.take) in
     let e = sym (ap length (top_edges q.take)) in
-    let s = c.insert_word.ensures (take_head h free) _ edge_column (rw n.0 (edges-in mid (taken free) 0 o e)) (lit< tt) (stored n.1) in
+    let s = c.insert_word.ensures (take_head h free) _ edge_column (rw n.0 (edges_in mid (taken free) 0 o e)) (lit< tt) (stored n.1) in
     rw (top_body q.take) at (edge_inserted mid (taken free) o 0 _ (rw n.0 at s))
 
 pub take_node-top-requires : goal.take_node-top-requires

@@ -13,7 +13,7 @@ use Rattle.node.proofs.Reading.{within}
 use Rattle.store.specs.Links.{with_edges, link}
 use Rattle.store.proofs.Chain.{head_put}
 use Rattle.internal.specs.Inner.{PopReady, root_of, height_of, only_child, pop_nodes}
-use Rattle.internal.proofs.Edges.{edges-in, edge_removed}
+use Rattle.internal.proofs.Edges.{edges_in, edge_removed}
 use Rattle.internal.proofs.Stages.{pop_here, bare, to_return}
 use Rattle.internal.proofs.pop_internal_level.Goals as goal
 use Rattle.internal.proofs.pop_internal_level.Goals.{After-clear_parent_link, After-remove_word, at-After-clear_parent_link}
@@ -22,7 +22,7 @@ use Rattle.internal.proofs.pop_internal_level.Goals.{After-clear_parent_link, Af
 child : (c : After-remove_word) → let x = c.args in (h : List ℕ) (ns : List NodeVal) (free : List ℕ) → PopReady h ns free → Arena x.a.now h ns → (c.remove_word.result ≡ only_child h ns) × Arena c.remove_word.new.a h (set ns (root_of h) (with_edges (nth ns (root_of h)) []))
 child c h ns free q a =
     let e = c.root-top.ensures ∙ (pop_here q a).2 in
-    let s = rw e at (c.remove_word.ensures h (map fields_of ns) edge_column (rw e (edges-in ns (root_of h) 1 q.root (sym q.one_edge))) (stored a)) in
+    let s = rw e at (c.remove_word.ensures h (map fields_of ns) edge_column (rw e (edges_in ns (root_of h) 1 q.root (sym q.one_edge))) (stored a)) in
     (s.0 ∙ ap (λ (f : Fields). get_or f.edges 0 0) (row_fields ns (root_of h)), rw (bare q) at (edge_removed ns (root_of h) q.root 0 s.1))
 
 -- the child hangs nowhere

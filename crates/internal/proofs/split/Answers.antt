@@ -15,7 +15,7 @@ use Rattle.store.specs.Links.{take_head, take_node}
 use Rattle.leaf.specs.Split.{CutReady, Cut, cut_bodies, split_nodes}
 use Rattle.leaf.proofs.Cutting.{new_other, to_split, pair_same, cut_pairs, pairs_cut}
 use Rattle.internal.specs.Inner.{Branches}
-use Rattle.internal.proofs.Edges.{edges-in, edges_put}
+use Rattle.internal.proofs.Edges.{edges_in, edges_put}
 use Rattle.internal.proofs.Stages.{cut_node_n, cut_node_m, cut_edges_n, cut_edges_m, cut_bodies_lem, cut_links}
 use Rattle.internal.proofs.split.Goals as goal
 use Rattle.internal.proofs.split.Goals.{After-move_last, After-split_leaf_data-kv, After-take_node-right, at-After-move_last, at-After-split_leaf_data-kv}
@@ -43,7 +43,7 @@ bodies c h ns free r b a =
     let f = ap length (cut_edges_n r b) in
     let g = ap length (cut_edges_m r b) in
     let z = (a.small x.n.0 r.node).pairs_fit in
-    let s = c.move_last.ensures (take_head h free) _ edge_column (edges-in mid x.n.0 _ (cut_node_n r b) (omega (arith, r.place, b.edges_are))) (rw m (edges-in mid (taken free) _ (cut_node_m r b) (omega arith))) (omega arith) (stored d.1) in
+    let s = c.move_last.ensures (take_head h free) _ edge_column (edges_in mid x.n.0 _ (cut_node_n r b) (omega (arith, r.place, b.edges_are))) (rw m (edges_in mid (taken free) _ (cut_node_m r b) (omega arith))) (omega arith) (stored d.1) in
     rw (cut_bodies_lem r b) at (edges_put mid x.n.0 (taken free) (λ (s t : List ℕ). take (x.at.0 + 1) s) (λ (s t : List ℕ). drop (x.at.0 + 1) s ++ t) (rw m at s))
 
 pub overflow_add-next : goal.overflow_add-next

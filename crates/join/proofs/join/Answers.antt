@@ -1,4 +1,3 @@
-
 use Prim.Native.Nat.{◌+◌, ◌*◌, ◌≤◌}
 use native.Mathlib.Omega.{arith}
 use mathlib.Core.Path.{refl}
@@ -20,8 +19,8 @@ use Rattle.join.proofs.join.Goals.{Else-lacks, Else-not-well_formed, Else-not-we
 formed : (c : Else-not-well_formed) → WellFormed c.args.first.now
 formed c = decided c.well_formed-2.result c.well_formed-2.ensures c.if-not-well_formed.false
 
-formed-second : (c : Else-not-well_formed-2) → WellFormed c.args.second.now
-formed-second c = decided c.well_formed-3.result c.well_formed-3.ensures c.if-not-well_formed-2.false
+formed_second : (c : Else-not-well_formed-2) → WellFormed c.args.second.now
+formed_second c = decided c.well_formed-3.result c.well_formed-3.ensures c.if-not-well_formed-2.false
 
 -- there is room for the pairs of both
 fits : (c : Else-third-pairs) → 2 * (header c.args.first.now pairs_word + header c.args.second.now pairs_word) ≤ length c.args.third.now
@@ -41,35 +40,35 @@ pub bounds-first-5 : goal.bounds-first-5
 bounds-first-5 c = omega (arith, (formed (goal.at.bounds-first-5 c).Else-not-well_formed).sized.long_is)
 
 pub bounds-second-5 : goal.bounds-second-5
-bounds-second-5 c = omega (arith, (formed-second (goal.at.bounds-second-5 c).Else-not-well_formed-2).sized.long_is)
+bounds-second-5 c = omega (arith, (formed_second (goal.at.bounds-second-5 c).Else-not-well_formed-2).sized.long_is)
 
 pub overflow_add-pairs : goal.overflow_add-pairs
-overflow_add-pairs c = omega (arith, pairs_few (formed (goal.at.overflow_add-pairs c).Else-not-well_formed), pairs_few (formed-second (goal.at.overflow_add-pairs c).Else-not-well_formed-2))
+overflow_add-pairs c = omega (arith, pairs_few (formed (goal.at.overflow_add-pairs c).Else-not-well_formed), pairs_few (formed_second (goal.at.overflow_add-pairs c).Else-not-well_formed-2))
 
 pub overflow_mul-pairs : goal.overflow_mul-pairs
-overflow_mul-pairs c = omega (arith, pairs_few (formed (goal.at.overflow_mul-pairs c).Else-not-well_formed), pairs_few (formed-second (goal.at.overflow_mul-pairs c).Else-not-well_formed-2))
+overflow_mul-pairs c = omega (arith, pairs_few (formed (goal.at.overflow_mul-pairs c).Else-not-well_formed), pairs_few (formed_second (goal.at.overflow_mul-pairs c).Else-not-well_formed-2))
 
 pub returns-then-third-pairs : goal.returns-then-third-pairs
 returns-then-third-pairs c =
     let x = c.args in
-    short x.third.now (forward x.first.now (formed (goal.at.returns-then-third-pairs c).Else-not-well_formed)) (forward x.second.now (formed-second (goal.at.returns-then-third-pairs c).Else-not-well_formed-2)) c.if-third-pairs.true
+    short x.third.now (forward x.first.now (formed (goal.at.returns-then-third-pairs c).Else-not-well_formed)) (forward x.second.now (formed_second (goal.at.returns-then-third-pairs c).Else-not-well_formed-2)) c.if-third-pairs.true
 
 pub lacks-requires : goal.lacks-requires
-lacks-requires c = (formed (goal.at.lacks-requires c).Else-not-well_formed, formed-second (goal.at.lacks-requires c).Else-not-well_formed-2, refl)
+lacks-requires c = (formed (goal.at.lacks-requires c).Else-not-well_formed, formed_second (goal.at.lacks-requires c).Else-not-well_formed-2, refl)
 
 pub returns-then-lacks : goal.returns-then-lacks
 returns-then-lacks c =
     let x = c.args in
     let h = forward x.first.now (formed (goal.at.returns-then-lacks c).Else-not-well_formed) in
-    let g = forward x.second.now (formed-second (goal.at.returns-then-lacks c).Else-not-well_formed-2) in
+    let g = forward x.second.now (formed_second (goal.at.returns-then-lacks c).Else-not-well_formed-2) in
     no_nodes x.third.now h g (fits (goal.at.returns-then-lacks c).Else-third-pairs) (held c.lacks.result (c.lacks.ensures _ _ h g) c.if-lacks.true)
 
 pub join_all-requires : goal.join_all-requires
-join_all-requires c = record { first = formed (goal.at.join_all-requires c).Else-not-well_formed; second = formed-second (goal.at.join_all-requires c).Else-not-well_formed-2; fits = fits (goal.at.join_all-requires c).Else-third-pairs; room = room (goal.at.join_all-requires c).Else-lacks }
+join_all-requires c = record { first = formed (goal.at.join_all-requires c).Else-not-well_formed; second = formed_second (goal.at.join_all-requires c).Else-not-well_formed-2; fits = fits (goal.at.join_all-requires c).Else-third-pairs; room = room (goal.at.join_all-requires c).Else-lacks }
 
 pub returns : goal.returns
 returns c =
     let x = c.args in
     let h = forward x.first.now (formed (goal.at.returns c).Else-not-well_formed) in
-    let g = forward x.second.now (formed-second (goal.at.returns c).Else-not-well_formed-2) in
+    let g = forward x.second.now (formed_second (goal.at.returns c).Else-not-well_formed-2) in
     done x.third.now h g (fits (goal.at.returns c).Else-third-pairs) (room (goal.at.returns c).Else-lacks _ _ h g) (c.join_all.ensures _ _ h g)

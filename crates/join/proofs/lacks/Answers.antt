@@ -1,4 +1,3 @@
-
 use native.Mathlib.Omega.{arith}
 use mathlib.Core.Path.{ap}
 use Rattle.model.specs.Room.{nodes_for}

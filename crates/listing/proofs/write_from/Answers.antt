@@ -29,8 +29,8 @@ module _ (c : After-within_end) {s : State} (o : Holds c.args.a.now s) (y : Edge
   key_is : c.key-k.result ≡ (seen (at-After-within_end c).In-Kv o y).kv.item.pair.key
   key_is = c.key-k.ensures ∙ kv_key _ (seen (at-After-within_end c).In-Kv o y).kv o
 
-  test-is : (b : Bool) → c.within_end.result ≡ b → to_end c.args.end (seen (at-After-within_end c).In-Kv o y).kv.item.pair.key ≡ b
-  test-is b q = ap (to_end c.args.end) (sym key_is) ∙ (sym c.within_end.ensures ∙ q)
+  test_is : (b : Bool) → c.within_end.result ≡ b → to_end c.args.end (seen (at-After-within_end c).In-Kv o y).kv.item.pair.key ≡ b
+  test_is b q = ap (to_end c.args.end) (sym key_is) ∙ (sym c.within_end.ensures ∙ q)
 
 -- two words of room
 fits : (c : Else-wrote-room) → 2 * c.loop-kv.wrote + 2 ≤ length c.args.out.now
@@ -55,13 +55,13 @@ pub shape_of-out-then-not-within_end : goal.shape_of-out-then-not-within_end
 shape_of-out-then-not-within_end c = c.loop-kv.invariant.0
 
 pub returns-then-not-within_end : goal.returns-then-not-within_end
-returns-then-not-within_end c = λ s o y. end_told (sofar (goal.at.returns-then-not-within_end c).At-loop-kv o y) (seen (goal.at.returns-then-not-within_end c).In-Kv o y) c.loop-kv.invariant.1 (test-is (goal.at.returns-then-not-within_end c).After-within_end o y false c.if-not-within_end.true)
+returns-then-not-within_end c = λ s o y. end_told (sofar (goal.at.returns-then-not-within_end c).At-loop-kv o y) (seen (goal.at.returns-then-not-within_end c).In-Kv o y) c.loop-kv.invariant.1 (test_is (goal.at.returns-then-not-within_end c).After-within_end o y false c.if-not-within_end.true)
 
 pub shape_of-out-then-wrote-room : goal.shape_of-out-then-wrote-room
 shape_of-out-then-wrote-room c = c.loop-kv.invariant.0
 
 pub returns-then-wrote-room : goal.returns-then-wrote-room
-returns-then-wrote-room c = λ s o y. more_told (sofar (goal.at.returns-then-wrote-room c).At-loop-kv o y) (seen (goal.at.returns-then-wrote-room c).In-Kv o y) c.if-wrote-room.true (test-is (goal.at.returns-then-wrote-room c).After-within_end o y true c.if-not-within_end.false)
+returns-then-wrote-room c = λ s o y. more_told (sofar (goal.at.returns-then-wrote-room c).At-loop-kv o y) (seen (goal.at.returns-then-wrote-room c).In-Kv o y) c.if-wrote-room.true (test_is (goal.at.returns-then-wrote-room c).After-within_end o y true c.if-not-within_end.false)
 
 pub overflow_mul-out : goal.overflow_mul-out
 overflow_mul-out c = omega (arith, fits c)
@@ -104,6 +104,6 @@ loop-kv-preserved c =
       omega (arith, l.invariant.1, c.if-wrote-room.false),
       λ s o y.
           let v = seen (goal.at.loop-kv-preserved c).In-Kv o y in
-          one_more (sofar (goal.at.loop-kv-preserved c).At-loop-kv o y) v (test-is (goal.at.loop-kv-preserved c).After-within_end o y true c.if-not-within_end.false) (fits (goal.at.loop-kv-preserved c).Else-wrote-room) k c.val.result
+          one_more (sofar (goal.at.loop-kv-preserved c).At-loop-kv o y) v (test_is (goal.at.loop-kv-preserved c).After-within_end o y true c.if-not-within_end.false) (fits (goal.at.loop-kv-preserved c).Else-wrote-room) k c.val.result
           (key_is (goal.at.loop-kv-preserved c).After-within_end o y) (c.val.ensures ∙ kv_val _ v.kv o) c.next_leaf_edge-edge.result (c.next_leaf_edge-edge.ensures s o v.kv),
     )

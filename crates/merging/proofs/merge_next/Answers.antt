@@ -16,8 +16,8 @@ module _ (c : In-Pair-y-2) where
   first_of : (s : State) (ps : List Pair) → HeadOf s ps c.args.x → HeadOf s ps (head.Pair c.in-Pair.p c.in-Pair.i)
   first_of s ps h = subst (HeadOf s ps) c.in-Pair.is h
 
-  second-of : (t : State) (qs : List Pair) → HeadOf t qs c.args.y → HeadOf t qs (head.Pair c.in-Pair-y-2.q c.in-Pair-y-2.j)
-  second-of t qs h = subst (HeadOf t qs) c.in-Pair-y-2.is h
+  second_of : (t : State) (qs : List Pair) → HeadOf t qs c.args.y → HeadOf t qs (head.Pair c.in-Pair-y-2.q c.in-Pair-y-2.j)
+  second_of t qs h = subst (HeadOf t qs) c.in-Pair-y-2.is h
 
 pub returns-in_default-y : goal.returns-in_default-y
 returns-in_default-y c = λ s t o u ps qs x y. ap₂ merge (subst (HeadOf s ps) c.in_default.is x) (subst (HeadOf t qs) c.in_default-y.is y)
@@ -44,7 +44,7 @@ peek-requires-then-p-q c = edge_of c.in-Pair.is c.requires.0
 pub returns-then-p-q : goal.returns-then-p-q
 returns-then-p-q c = λ s t o u ps qs x y.
     let f = first_of (goal.at.returns-then-p-q c).In-Pair-y-2 s ps x in
-    let g = second-of (goal.at.returns-then-p-q c).In-Pair-y-2 t qs y in
+    let g = second_of (goal.at.returns-then-p-q c).In-Pair-y-2 t qs y in
     first_less (after f.0.way) (after g.0.way) f.1 g.1 c.if-p-q.true g (c.peek-then-p-q.ensures s o f.0)
 
 pub peek-requires-then-p-q-2 : goal.peek-requires-then-p-q-2
@@ -56,7 +56,7 @@ peek-requires-then-p-q-2-2 c = edge_of c.in-Pair-y-2.is c.requires.1
 pub returns-then-p-q-2 : goal.returns-then-p-q-2
 returns-then-p-q-2 c = λ s t o u ps qs x y.
     let f = first_of (goal.at.returns-then-p-q-2 c).In-Pair-y-2 s ps x in
-    let g = second-of (goal.at.returns-then-p-q-2 c).In-Pair-y-2 t qs y in
+    let g = second_of (goal.at.returns-then-p-q-2 c).In-Pair-y-2 t qs y in
     both_same (after f.0.way) (after g.0.way) f.1 g.1 c.if-p-q-2.true (c.peek-then-p-q-2.ensures s o f.0) (c.peek-then-p-q-2-2.ensures t u g.0)
 
 pub peek-requires-2 : goal.peek-requires-2
@@ -65,6 +65,6 @@ peek-requires-2 c = edge_of c.in-Pair-y-2.is c.requires.1
 pub returns : goal.returns
 returns c = λ s t o u ps qs x y.
     let f = first_of (goal.at.returns c).In-Pair-y-2 s ps x in
-    let g = second-of (goal.at.returns c).In-Pair-y-2 t qs y in
+    let g = second_of (goal.at.returns c).In-Pair-y-2 t qs y in
     let l : c.in-Pair-y-2.q.0 < c.in-Pair.p.0 = omega (arith, c.if-p-q.false, c.if-p-q-2.false) in
     second_less (after f.0.way) (after g.0.way) f.1 g.1 l f (c.peek-2.ensures t u g.0)

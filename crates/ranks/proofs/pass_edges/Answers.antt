@@ -6,11 +6,11 @@ use mathlib.Core.Path.{◌≡◌, ◌∙◌}
 use lib.ListN.{length}
 use Rattle.model.specs.Tree.{flat}
 use Rattle.model.proofs.Forks.{hole_at}
-use Rattle.ranks.proofs.Lefts.{edge_in, child_at, coming-in, coming_down, coming_here, coming_on}
+use Rattle.ranks.proofs.Lefts.{edge_in, child_at, coming_in, coming_down, coming_here, coming_on}
 use Rattle.ranks.proofs.pass_edges.Goals as goal
 
 pub loop-rest-init : goal.loop-rest-init
-loop-rest-init c = λ s o h p u. coming-in (suc h) p.tree _ u
+loop-rest-init c = λ s o h p u. coming_in (suc h) p.tree _ u
 
 pub edge-child-requires : goal.edge-child-requires
 edge-child-requires c =

@@ -13,7 +13,7 @@ use Rattle.search.specs.declared.SearchResult.TheVariants.{Found}
 use Rattle.search.specs.Results.{handle, spotted}
 use Rattle.remove.proofs.States.{same_long}
 use Rattle.remove.proofs.Again.{node_below, shown}
-use Rattle.remove.proofs.Inner.{edge_some, left_kv, still_there, again-in, inner_was, inner_holds}
+use Rattle.remove.proofs.Inner.{edge_some, left_kv, still_there, again_in, inner_was, inner_holds}
 use Rattle.remove.proofs.remove_internal_kv.Goals as goal
 use Rattle.remove.proofs.remove_internal_kv.Goals.{After-remove_leaf_kv-left_kv, Then-has_key, at-Then-has_key}
 
@@ -24,7 +24,7 @@ pub next_back_leaf_edge-edge-requires : goal.next_back_leaf_edge-edge-requires
 next_back_leaf_edge-edge-requires c = let p = c.requires in record { state = p.state; holds = p.holds; there = p.there.kv }
 
 pub overflow_sub-i : goal.overflow_sub-i
-overflow_sub-i c = let p = c.requires in edge_some p.holds p.there _ (c.next_back_leaf_edge-edge.ensures p.state p.holds p.there.kv)
+overflow_sub-i c = let p = c.requires in omega (arith, edge_some p.holds p.there _ (c.next_back_leaf_edge-edge.ensures p.state p.holds p.there.kv))
 
 pub remove_leaf_kv-left_kv-requires : goal.remove_leaf_kv-left_kv-requires
 remove_leaf_kv-left_kv-requires c =
@@ -57,7 +57,7 @@ pub replace_kv-requires : goal.replace_kv-requires
 replace_kv-requires c =
     let p = c.requires in
     let k = between (goal.at.replace_kv-requires c).After-remove_leaf_kv-left_kv p.holds p.there in
-    again-in p.holds p.there _ (c.next_back_leaf_edge-edge.ensures p.state p.holds p.there.kv) k _ (key_is (goal.at.replace_kv-requires c).After-remove_leaf_kv-left_kv p.holds p.there) _ (stays (goal.at.replace_kv-requires c).Then-has_key p.holds p.there).1
+    again_in p.holds p.there _ (c.next_back_leaf_edge-edge.ensures p.state p.holds p.there.kv) k _ (key_is (goal.at.replace_kv-requires c).After-remove_leaf_kv-left_kv p.holds p.there) _ (stays (goal.at.replace_kv-requires c).Then-has_key p.holds p.there).1
 
 pub returns-then-has_key : goal.returns-then-has_key
 returns-then-has_key c =
@@ -88,7 +88,7 @@ pub replace_kv-requires-2 : goal.replace_kv-requires-2
 replace_kv-requires-2 c =
     let p = c.requires in
     let k = between (goal.at.replace_kv-requires-2 c).After-remove_leaf_kv-left_kv p.holds p.there in
-    again-in p.holds p.there _ (c.next_back_leaf_edge-edge.ensures p.state p.holds p.there.kv) k _ (key_is (goal.at.replace_kv-requires-2 c).After-remove_leaf_kv-left_kv p.holds p.there) _ (sym c.in-Found.is ∙ c.search_tree.ensures _ k)
+    again_in p.holds p.there _ (c.next_back_leaf_edge-edge.ensures p.state p.holds p.there.kv) k _ (key_is (goal.at.replace_kv-requires-2 c).After-remove_leaf_kv-left_kv p.holds p.there) _ (sym c.in-Found.is ∙ c.search_tree.ensures _ k)
 
 pub returns : goal.returns
 returns c =

@@ -8,7 +8,7 @@ use Rattle.standing.specs.Heads.{rest_of}
 use Rattle.fix.specs.Repairs.{Emptied}
 use Rattle.remove.specs.Removals.{LeafKv, without}
 use Rattle.remove.proofs.States.{same_long}
-use Rattle.fix.proofs.Emptying.{repaired, unrepaired, emptied_long, emptied_stays, emptied-in, emptied_popped}
+use Rattle.fix.proofs.Emptying.{repaired, unrepaired, emptied_long, emptied_stays, emptied_in, emptied_popped}
 use Rattle.remove.proofs.Leaving.{there, leaf_taken, pairs_word_is, leaf_mending, leaf_holds, leaf_end}
 use Rattle.remove.proofs.remove_leaf_kv.Goals as goal
 use Rattle.remove.proofs.remove_leaf_kv.Goals.{Else-fix_node_and_affected_ancestors}
@@ -41,7 +41,7 @@ pub height-requires : goal.height-requires
 height-requires c = let p = c.requires in let e = emptied c p.holds p.there in omega (arith, emptied_long e)
 
 pub pop_internal_level-requires : goal.pop_internal_level-requires
-pop_internal_level-requires c = let p = c.requires in emptied-in (emptied (goal.at.pop_internal_level-requires c).Else-fix_node_and_affected_ancestors p.holds p.there) (omega (arith, c.height.ensures, c.if-height-gt0.true))
+pop_internal_level-requires c = let p = c.requires in emptied_in (emptied (goal.at.pop_internal_level-requires c).Else-fix_node_and_affected_ancestors p.holds p.there) (omega (arith, c.height.ensures, c.if-height-gt0.true))
 
 pub returns-then-height-gt0 : goal.returns-then-height-gt0
 returns-then-height-gt0 c = λ s o y. (leaf_taken o y c.take_pair-old.ensures, leaf_holds o y (emptied_popped (emptied (goal.at.returns-then-height-gt0 c).Else-fix_node_and_affected_ancestors o y) (omega (arith, c.height.ensures, c.if-height-gt0.true)) c.pop_internal_level.ensures))

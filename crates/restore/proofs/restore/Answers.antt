@@ -16,8 +16,8 @@ as_long c = omega arith
 formed : (c : Else-not-well_formed) → WellFormed c.args.a.now
 formed c = decided c.well_formed-2.result c.well_formed-2.ensures c.if-not-well_formed.false
 
-image-formed : (c : Else-not-well_formed-2) → WellFormed c.args.image.now
-image-formed c = decided c.well_formed-3.result c.well_formed-3.ensures c.if-not-well_formed-2.false
+image_formed : (c : Else-not-well_formed-2) → WellFormed c.args.image.now
+image_formed c = decided c.well_formed-3.result c.well_formed-3.ensures c.if-not-well_formed-2.false
 
 pub returns-then-image-a : goal.returns-then-image-a
 returns-then-image-a c =
@@ -36,16 +36,16 @@ returns-then-not-well_formed-2 c =
     bad_image x.older x.a.now x.image.now (as_long at.Else-image-a) (formed at.Else-not-well_formed) (refuted c.well_formed-3.result c.well_formed-3.ensures c.if-not-well_formed-2.true)
 
 pub too_old-requires : goal.too_old-requires
-too_old-requires c = (omega (arith, headed (image-formed c)), omega (arith, headed (formed (goal.at.too_old-requires c).Else-not-well_formed)))
+too_old-requires c = (omega (arith, headed (image_formed c)), omega (arith, headed (formed (goal.at.too_old-requires c).Else-not-well_formed)))
 
 pub returns-then-too_old : goal.returns-then-too_old
 returns-then-too_old c =
     let x = c.args in
     let at = goal.at.returns-then-too_old c in
-    not_meant x.older x.a.now x.image.now (as_long at.Else-image-a) (formed at.Else-not-well_formed) (image-formed at.Else-not-well_formed-2) (held c.too_old.result c.too_old.ensures c.if-too_old.true)
+    not_meant x.older x.a.now x.image.now (as_long at.Else-image-a) (formed at.Else-not-well_formed) (image_formed at.Else-not-well_formed-2) (held c.too_old.result c.too_old.ensures c.if-too_old.true)
 
 pub raise_to-requires : goal.raise_to-requires
-raise_to-requires c = let at = goal.at.raise_to-requires c in (formed at.Else-not-well_formed, image-formed at.Else-not-well_formed-2)
+raise_to-requires c = let at = goal.at.raise_to-requires c in (formed at.Else-not-well_formed, image_formed at.Else-not-well_formed-2)
 
 pub copy_but_mark-requires : goal.copy_but_mark-requires
 copy_but_mark-requires c =
@@ -57,4 +57,4 @@ pub returns : goal.returns
 returns c =
     let x = c.args in
     let at = goal.at.returns c in
-    done x.older x.a.now x.image.now (as_long at.Else-image-a) (formed at.Else-not-well_formed) (image-formed at.Else-not-well_formed-2) (failed c.too_old.result c.too_old.ensures c.if-too_old.false) _ _ c.raise_to.ensures c.copy_but_mark.ensures
+    done x.older x.a.now x.image.now (as_long at.Else-image-a) (formed at.Else-not-well_formed) (image_formed at.Else-not-well_formed-2) (failed c.too_old.result c.too_old.ensures c.if-too_old.false) _ _ c.raise_to.ensures c.copy_but_mark.ensures

@@ -7,7 +7,7 @@ use lib.ListN.{set}
 use Rattle.model.specs.Layout.{nth, Arena}
 use Rattle.model.specs.Words.{free_val}
 use Rattle.node.proofs.Reading.{within, parent_is}
-use Rattle.store.proofs.Chain.{return_here, first_is, returned_first, before-in, before_bare, returned_behind}
+use Rattle.store.proofs.Chain.{return_here, first_is, returned_first, before_in, before_bare, returned_behind}
 use Rattle.store.proofs.return_node.Goals as goal
 
 pub first_free-first-requires : goal.first_free-first-requires
@@ -42,7 +42,7 @@ pub parent-next-requires : goal.parent-next-requires
 parent-next-requires c =
     let p = c.requires in
     let e = c.free_before-before.ensures p.head p.nodes p.holds.0 p.holds.1 p.arena in
-    within p.arena _ (before-in p.arena p.holds.0 _ _ p.holds.1 refl _ e c.if-before-eq-NONE.false)
+    within p.arena _ (before_in p.arena p.holds.0 _ _ p.holds.1 refl _ e c.if-before-eq-NONE.false)
 
 pub set_free-requires-2 : goal.set_free-requires-2
 set_free-requires-2 c =
@@ -53,7 +53,7 @@ pub set_free-requires-3 : goal.set_free-requires-3
 set_free-requires-3 c =
     let p = c.requires in
     let e = c.free_before-before.ensures p.head p.nodes p.holds.0 p.holds.1 p.arena in
-    omega (arith, within p.arena _ (before-in p.arena p.holds.0 _ _ p.holds.1 refl _ e c.if-before-eq-NONE.false))
+    omega (arith, within p.arena _ (before_in p.arena p.holds.0 _ _ p.holds.1 refl _ e c.if-before-eq-NONE.false))
 
 pub set_free_nodes-requires-2 : goal.set_free_nodes-requires-2
 set_free_nodes-requires-2 c =
@@ -66,7 +66,7 @@ returns c = λ h ns free r a.
     let p = c.free_before-before.result in
     let e = c.free_before-before.ensures h ns free r a in
     let d = c.if-before-eq-NONE.false in
-    let u = c.parent-next.ensures ∙ parent_is a p (before-in a free n _ r refl p e d) in
+    let u = c.parent-next.ensures ∙ parent_is a p (before_in a free n _ r refl p e d) in
     let s : Arena c.set_free-2.new.a h (set ns n (free_val (nth ns p).parent)) = rw u at (c.set_free-2.ensures h ns r.node r.no_pairs r.no_edges a) in
     let k = before_bare a free n _ r refl p e d (nth ns p).parent in
     rw c.set_free_nodes-2.ensures (returned_behind a free n _ r (ap (λ (t : ℕ). t + 1) c.free_nodes-left.ensures) p e d _ c.first_free-first.ensures (c.set_free-3.ensures h (set ns n (free_val (nth ns p).parent)) k.0 k.1 k.2 s))

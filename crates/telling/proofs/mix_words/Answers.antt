@@ -6,8 +6,8 @@ use Rattle.telling.specs.Numbers.{mix_of, mix_all}
 use Rattle.telling.proofs.mix_words.Goals as goal
 
 -- one word more
-mixed-on : (a : List ℕ) (i mix r : ℕ) → i < length a → r ≡ mix_of mix (get_or a i 0) → mix_all r (drop (i + 1) a) ≡ mix_all mix (drop i a)
-mixed-on a i mix r l e = rw (e, drop-cons a i 0 l, add-one) refl
+mixed_on : (a : List ℕ) (i mix r : ℕ) → i < length a → r ≡ mix_of mix (get_or a i 0) → mix_all r (drop (i + 1) a) ≡ mix_all mix (drop i a)
+mixed_on a i mix r l e = rw (e, drop-cons a i 0 l, add-one) refl
 
 pub loop-i-init : goal.loop-i-init
 loop-i-init c = (omega arith, refl)
@@ -16,7 +16,7 @@ pub loop-i-preserved : goal.loop-i-preserved
 loop-i-preserved c =
     let x = c.args in
     let o = c.loop-i-test.true in
-    (omega (arith, o), mixed-on x.a.now c.loop-i.i c.loop-i.mix c.mixed-mix.result (omega arith) c.mixed-mix.ensures ∙ c.loop-i.invariant.1)
+    (omega (arith, o), mixed_on x.a.now c.loop-i.i c.loop-i.mix c.mixed-mix.result (omega arith) c.mixed-mix.ensures ∙ c.loop-i.invariant.1)
 
 pub returns : goal.returns
 returns c =
