@@ -1,5 +1,5 @@
--- The demands on the whole index, each as one statement over every public call: proved in proofs/ as Every.as-the-map, Every.any-history, Every.one-end;
--- and document 02's of joins, proved as Joins.cut-then-join, Joins.three-in-order.
+-- The demands on the whole index, each as one statement over every public call: proved in proofs/ as Every.as_the_map, Every.any_history, Every.one_end;
+-- and document 02's of joins, proved as Joins.cut_then_join, Joins.three_in_order.
 -- Assumes nothing.
 use Rattle.std.specs.Prelude.{ℕ, ◌*◌, ◌≤◌, ◌≡◌, true, false, List, [], ◌∷◌, length}
 use Rattle.model.specs.declared.Answer.{Answer}

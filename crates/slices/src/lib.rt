@@ -1,4 +1,6 @@
 // Moves of words in slices: node.rs's slice_insert, slice_remove, slice_shl, slice_shr and move_to_slice.
+#![tactic(auto)]
+
 ghost use Rattle.std.specs.Prelude.{◌≡◌, ◌⊎◌, ◌∷◌, ◌++◌, [], ◌+◌, ◌-◌, ◌<◌, ◌≤◌, length, take, drop, get_or, replicate};
 ghost use Rattle.model.specs.Lists.{part, insert_at};
 ghost use Rattle.slices.specs.Words.{splice, moved, remove_at};

@@ -81,7 +81,7 @@ pub fn say_line(rt: &impl Print, a: &[u64]) -> io::Result<()> {
     println!(rt)
 }
 
-// Reads until the buffer is full or the input ends; how many bytes were read, which lie at the buffer's front. Where a reading fails, the bytes
+// Reads until the buffer is full or the input ends; how many bytes were read, which lie at the buffer's front. Where a reading fails, those
 // that came before it are in the buffer, and how many is not told.
 pub fn read_full<R: Read>(input: &mut R, buf: &mut [u8]) -> io::Result<usize>
     ensures bound { ReadsAtMost result buf.new }
