@@ -83,6 +83,7 @@ fn last_line(rt: &impl Print, a: &[u64]) -> io::Result<()>
     say_last(rt, a[9])
 }
 
+// Where a reading or a writing fails, the orders before it are done and were answered; nothing of the index outlives the call.
 pub fn serve(rt: &(impl Input + Print)) -> io::Result<()> {
     let mut a = [0; LONG];
     format(&mut a);
