@@ -15,6 +15,9 @@ use telling::{around, say, say_line};
 // The words of 64 nodes.
 const LONG: usize = 2506;
 
+// So many keys are tried at most.
+const TRIES: u64 = 1000;
+
 // The keys are below this prime.
 const ROUND: u64 = 10_007;
 
@@ -29,16 +32,14 @@ fn puts(a: &mut [u64], first: u64, step: u64) -> u64
     ensures { Fills step a.new result first 0 a.old }
 {
     let mut key = first;
-    let mut i = 0;
-    while i < 1000 {
+    for i in 0..TRIES {
         let r = put(a, key, i);
         if r.number() == 3 {
-            break;
+            return i;
         }
         key = around(key, step, ROUND);
-        i += 1;
     }
-    i
+    TRIES
 }
 
 fn fill(rt: &impl Print, a: &mut [u64], first: u64, step: u64) -> io::Result<()>
