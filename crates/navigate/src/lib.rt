@@ -13,7 +13,7 @@ ghost use Rattle.search.specs.Results.{leaf_edge};
 ghost use Rattle.navigate.specs.Places.{In, EdgeAt, KvAt, stepped};
 
 use model::SearchBound;
-use node::{Ascent, NodeNo, Place, ascend, edge, keys, len};
+use node::{NodeNo, Place, ascend, edge, keys, len};
 use search::{Handle, find_lower_bound_index};
 
 // The pair beside an edge, or the end.
@@ -37,7 +37,7 @@ pub fn next_kv(a: &[u64], from: Handle) -> Next
         if at.0 < n {
             return Next::Kv(Handle { node, height, at });
         }
-        let Ascent::Edge(p, i) = ascend(a, node) else {
+        let Some((p, i)) = ascend(a, node) else {
             return Next::End;
         };
         node = p;
@@ -64,7 +64,7 @@ pub fn next_back_kv(a: &[u64], from: Handle) -> Next
                 at: Place(i - 1),
             });
         }
-        let Ascent::Edge(p, j) = ascend(a, node) else {
+        let Some((p, j)) = ascend(a, node) else {
             return Next::End;
         };
         node = p;
