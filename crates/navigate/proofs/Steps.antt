@@ -8,6 +8,7 @@ use mathlib.Core.Bool.{Bool}
 use mathlib.Core.List.{List, [], ◌∷◌}
 use lib.ListN.{length}
 use borrow.Author.Tests.{ne_eqb}
+use Rattle.std.specs.Prelude.{Some, None}
 use Rattle.model.specs.Layout.{none, most, base, node_size, header, height_word, word_at, length_word, parent_word, place_word, edges_word}
 use Rattle.model.specs.Tree.{Item, Tree, Frame, Ctx, top, under, Whole, plug, fill}
 use Rattle.model.specs.Search.{Spot, gap, sink}
@@ -20,14 +21,14 @@ use Rattle.model.proofs.Plug.{length_fill}
 use Rattle.model.proofs.Forks.{StopsAt, down_at, hole_at, sink_open, open_filled}
 use Rattle.model.proofs.Held.{words_long, words_header}
 use Rattle.model.proofs.Standing.{parent_of, index_of, NodeAt, node_at, length_at, At, stands, below_at, short_at}
-use Rattle.node.specs.declared.Ascent.TheVariants.{Edge, Root}
+use Rattle.node.proofs.Reading.{same_node, same_place}
 use Rattle.node.specs.declared.NodeNo.{NodeNo}
 use Rattle.node.specs.declared.Place.{Place}
 use Rattle.node.specs.Reading.{ascent_of}
 use Rattle.search.specs.declared.Handle.{Handle}
 use Rattle.search.specs.Results.{handle, leaf_edge}
 use Rattle.search.proofs.Descents.{leaf_at}
-use Rattle.navigate.specs.declared.Next.TheVariants.{Kv, End}
+use Rattle.std.proofs.Common.{Some, None}
 use Rattle.navigate.specs.Places.{EdgeAt, KvAt, stepped}
 use Rattle.navigate.proofs.Pairs.{node, kv_at_node, kv_length}
 
@@ -76,26 +77,26 @@ number_low {s} o a e = let l = a.within in let k : base s.size ≡ _ = sym (ap l
 
 module _ (Q : (h : ℕ) → Ctx h → Tree h → Type 0) {w : List ℕ} {s : State} (o : Holds w s) (n h i : ℕ) (y : Climb Q s n h i) (more : Q (suc h) y.ctx (here Q o y)) where
   -- the parent of what fills a hole below a node
-  parent_is : (f : Frame (Tree (suc h))) (c : Ctx (suc (suc h))) (t : Tree (suc h)) → plug (under f c) t ≡ s.whole → ascent_of f.no (length f.left) ≡ Edge (record { 0 = f.no }) (record { 0 = length f.left })
+  parent_is : (f : Frame (Tree (suc h))) (c : Ctx (suc (suc h))) (t : Tree (suc h)) → plug (under f c) t ≡ s.whole → ascent_of f.no (length f.left) ≡ Some (record { 0 = f.no }, record { 0 = length f.left })
   parent_is f c t e = rw (ne_eqb f.no none (number_low o (node_at o c (fill f.no f.left t f.right) e)), ascent_of)
 
   -- at the root there is no further edge
-  pub climb_root : ascent_of (word_at w n parent_word) (word_at w n place_word) ≡ Root → (t : Tree (suc h)) × Q (suc h) top t
+  pub climb_root : ascent_of (word_at w n parent_word) (word_at w n place_word) ≡ None → (t : Tree (suc h)) × Q (suc h) top t
   climb_root e = go y.ctx (here Q o y) y.whole more (sym (link_is Q o y) ∙ e)
     where
-      go : (c : Ctx (suc h)) (t : Tree (suc h)) → plug c t ≡ s.whole → Q (suc h) c t → ascent_of (parent_of c) (index_of c) ≡ Root → (t : Tree (suc h)) × Q (suc h) top t
+      go : (c : Ctx (suc h)) (t : Tree (suc h)) → plug c t ≡ s.whole → Q (suc h) c t → ascent_of (parent_of c) (index_of c) ≡ None → (t : Tree (suc h)) × Q (suc h) top t
       go top t q m r = (t, m)
       go (under f c) t q m r = let a = parent_is f c t q in let z : ◌≡◌ {A = ℕ} 0 1 = cc in absurd (omega arith)
 
   -- below it there is
-  pub climb_on : (p : NodeNo) (j : Place) → ascent_of (word_at w n parent_word) (word_at w n place_word) ≡ Edge p j → Climb Q s p.0 (h + 1) j.0
+  pub climb_on : (p : NodeNo) (j : Place) → ascent_of (word_at w n parent_word) (word_at w n place_word) ≡ Some (p, j) → Climb Q s p.0 (h + 1) j.0
   climb_on p j e = rw add-one (go y.ctx (here Q o y) y.whole more (sym (link_is Q o y) ∙ e))
     where
-      go : (c : Ctx (suc h)) (t : Tree (suc h)) → plug c t ≡ s.whole → Q (suc h) c t → ascent_of (parent_of c) (index_of c) ≡ Edge p j → Climb Q s p.0 (suc h) j.0
+      go : (c : Ctx (suc h)) (t : Tree (suc h)) → plug c t ≡ s.whole → Q (suc h) c t → ascent_of (parent_of c) (index_of c) ≡ Some (p, j) → Climb Q s p.0 (suc h) j.0
       go top t q m r = let z : ◌≡◌ {A = ℕ} 0 1 = cc in absurd (omega arith)
       go (under f c) t q m r =
           let a = parent_is f c t q in
-          record { frame = f; ctx = c; tree = t; whole = q; node_is = cc; at_is = cc; holds = m }
+          record { frame = f; ctx = c; tree = t; whole = q; node_is = same_node (sym a ∙ r); at_is = same_place (sym a ∙ r); holds = m }
 
 -- ---- down
 
@@ -142,8 +143,8 @@ pub climb_top : (Q : (h : ℕ) → Ctx h → Tree h → Type 0) {w : List ℕ} {
 climb_top Q {w} {s} o y = let e : header w height_word ≡ pred s.whole.height = ap (λ (x : List ℕ). header x height_word) o.words ∙ words_header o.sound height_word (omega arith) in omega (arith, climb_high Q o y)
 
 -- a pair of the node
-kv_at : (Q : (h : ℕ) → Ctx h → Tree h → Type 0) {w : List ℕ} {s : State} (o : Holds w s) {n h i : ℕ} (y : Climb Q s n h i) {j : ℕ} (k : ℕ) → j ≡ k → Kv (handle y.frame.no h j) ≡ Kv (handle n h k)
-kv_at Q o {n} {h} y {j} k e = ap (λ (m : ℕ). Kv (handle m h j)) y.node_is ∙ ap (λ (j : ℕ). Kv (handle n h j)) e
+kv_at : (Q : (h : ℕ) → Ctx h → Tree h → Type 0) {w : List ℕ} {s : State} (o : Holds w s) {n h i : ℕ} (y : Climb Q s n h i) {j : ℕ} (k : ℕ) → j ≡ k → Some (handle y.frame.no h j) ≡ Some (handle n h k)
+kv_at Q o {n} {h} y {j} k e = ap (λ (m : ℕ). Some (handle m h j)) y.node_is ∙ ap (λ (j : ℕ). Some (handle n h j)) e
 
 -- ---- to the right
 
@@ -152,10 +153,10 @@ module _ (z : Spot) (d : Ctx zero) where
   Nexts h c t = z ≡ right_of (gap d) c t
 
   module _ {w : List ℕ} {s : State} (o : Holds w s) (n h i : ℕ) (y : Climb Nexts s n h i) where
-    pub next_here : i < word_at w n length_word → Kv (handle n h i) ≡ stepped z
+    pub next_here : i < word_at w n length_word → Some (handle n h i) ≡ stepped z
     next_here l = go y.frame.right refl
       where
-        go : (q : List (Item (Tree h))) → y.frame.right ≡ q → Kv (handle n h i) ≡ stepped z
+        go : (q : List (Item (Tree h))) → y.frame.right ≡ q → Some (handle n h i) ≡ stepped z
         go [] e = absurd (omega (arith, climb_length Nexts o y, ap length e))
         go (x ∷ r) e = sym (ap stepped (y.holds ∙ ap (λ (r : List (Item (Tree h))). right_in y.ctx y.frame.no y.frame.left y.tree r (right_of (gap d) y.ctx (here Nexts o y))) e) ∙ kv_at Nexts o y i y.at_is)
 
@@ -166,7 +167,7 @@ module _ (z : Spot) (d : Ctx zero) where
         go [] e = y.holds ∙ ap (λ (r : List (Item (Tree h))). right_in y.ctx y.frame.no y.frame.left y.tree r (right_of (gap d) y.ctx (here Nexts o y))) e
         go (x ∷ r) e = absurd (omega (arith, climb_length Nexts o y, ap length e))
 
-    pub next_ended : (t : Tree (suc h)) × Nexts (suc h) top t → End ≡ stepped z
+    pub next_ended : (t : Tree (suc h)) × Nexts (suc h) top t → None ≡ stepped z
     next_ended e = sym (ap stepped e.1)
 
 -- ---- to the left
@@ -179,10 +180,10 @@ module _ (z : Spot) (d : Ctx zero) where
     from_left : (q : List (Item (Tree h))) → y.frame.left ≡ q → z ≡ left_in y.ctx y.frame.no q y.tree y.frame.right (left_of (gap d) y.ctx (here Backs o y))
     from_left q e = y.holds ∙ ap (λ (l : List (Item (Tree h))). left_in y.ctx y.frame.no l y.tree y.frame.right (left_of (gap d) y.ctx (here Backs o y))) e
 
-    pub back_here : 1 ≤ i → Kv (handle n h (i - 1)) ≡ stepped z
+    pub back_here : 1 ≤ i → Some (handle n h (i - 1)) ≡ stepped z
     back_here l = go y.frame.left refl
       where
-        go : (q : List (Item (Tree h))) → y.frame.left ≡ q → Kv (handle n h (i - 1)) ≡ stepped z
+        go : (q : List (Item (Tree h))) → y.frame.left ≡ q → Some (handle n h (i - 1)) ≡ stepped z
         go [] e = absurd (omega (arith, y.at_is, ap length e))
         go (x ∷ q) e = sym (ap stepped (from_left (x ∷ q) e) ∙ kv_at Backs o y (i - 1) (omega (arith, y.at_is, ap length e)))
 
@@ -193,7 +194,7 @@ module _ (z : Spot) (d : Ctx zero) where
         go [] e = from_left [] e
         go (x ∷ q) e = absurd (omega (arith, y.at_is, ap length e))
 
-    pub back_ended : (t : Tree (suc h)) × Backs (suc h) top t → End ≡ stepped z
+    pub back_ended : (t : Tree (suc h)) × Backs (suc h) top t → None ≡ stepped z
     back_ended e = sym (ap stepped e.1)
 
 -- ---- down from beside a pair
