@@ -48,7 +48,7 @@ fn damage(rt: &impl Print, a: &mut [u64], i: usize) -> io::Result<()>
     let mut line = [b'\n'; KINDS + 1];
     for (j, wrong) in wrongs(v).iter().enumerate() {
         a[i] = *wrong;
-        line[j] = digit(check(a));
+        line[j] = digit(Answer::from(check(a)));
     }
     a[i] = v;
     rt.write_all(&line)
@@ -83,7 +83,7 @@ fn leaves(a: &mut [u64; LONG]) {
 fn sizes(rt: &impl Print, a: &mut [u64; LONG]) -> io::Result<()> {
     for k in 0..=LONG {
         let f = digit(format(&mut a[..k]));
-        let c = digit(check(&a[..k]));
+        let c = digit(Answer::from(check(&a[..k])));
         rt.write_all(&[f, c, b'\n'])?;
     }
     Ok(())
@@ -99,7 +99,7 @@ fn every_word(rt: &impl Print, a: &mut [u64]) -> io::Result<()> {
 
 // The answer for the arena as it is.
 fn say(rt: &impl Print, a: &[u64]) -> io::Result<()> {
-    let c = digit(check(a));
+    let c = digit(Answer::from(check(a)));
     rt.write_all(&[c, b'\n'])
 }
 

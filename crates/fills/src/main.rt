@@ -51,7 +51,7 @@ fn fill(rt: &impl Print, a: &mut [u64], first: u64, step: u64) -> io::Result<()>
     tell(rt, put(a, ROUND, 0))?;
     tell(rt, get(a, first))?;
     tell(rt, get(a, ROUND))?;
-    tell(rt, check(a))?;
+    tell(rt, Answer::from(check(a)))?;
     println!(rt)?;
     say_line(rt, a)
 }

@@ -15,4 +15,4 @@ loop-i-preserved c = record {
 }
 
 pub returns : goal.returns
-returns c = c.loop-i.invariant.joins _ _ (all_tried (omega arith) refl refl)
+returns c = c.loop-i.invariant.joins _ _ (all_tried (omega arith) refl (omega arith))
