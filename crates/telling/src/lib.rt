@@ -2,14 +2,22 @@
 // Where a writing fails, part of its text may have been written; nothing else has changed.
 #![tactic(auto)]
 
-ghost use Rattle.std.specs.Prelude.{◌≡◌, ◌+◌, ◌*◌, ◌%◌, ◌^◌, ◌<◌, ◌≤◌, length, take, IfOk};
+ghost use Rattle.std.specs.Prelude.{◌≡◌, ◌+◌, ◌*◌, ◌%◌, ◌^◌, ◌<◌, ◌≤◌, length, take, IfOk, OnOk};
 ghost use Rattle.std.specs.Io.{ReadsAtMost};
 ghost use Rattle.std.specs.Io.KnownBytes.{Consumes, IsAtEnd};
+ghost use Rattle.std.specs.Fn.{CalledAt};
+ghost use Rattle.telling.specs.Records.{Handed};
 ghost use Rattle.telling.specs.Numbers.{word_in, mix_of, mix_all, around_of};
 
 use model::Answer;
 use std::io;
 use std::io::Read;
+
+// The bytes of a record.
+pub const RECORD: usize = 24;
+
+// So many records are read at most: years of them.
+const TURNS: u64 = 1_000_000_000_000_000;
 
 // A number and a space.
 pub fn say(rt: &impl Print, n: u64) -> io::Result<()> {
@@ -58,6 +66,26 @@ pub fn read_full<R: Read>(input: &mut R, buf: &mut [u8]) -> io::Result<usize>
         done += n;
     }
     Ok(done)
+}
+
+// Reads records and hands each on, the last one short: what is left where the input ends, nothing if need be. Where a reading or what takes
+// the records fails, it stops there.
+pub fn each_record<R: Read, F: FnMut(&[u8]) -> io::Result<()>>(
+    input: &mut R,
+    mut take: F,
+) -> io::Result<()>
+    requires { F.IsAlwaysCallable take }
+    ensures { OnOk result ((last : F) × Handed (λ s t b. Consumes (R.remaining s) (R.remaining t) b) (λ t. IsAtEnd (R.remaining t)) (λ p b q. CalledAt F.FnMut p b (Ok tt) q) input.new last 0 input.old take) }
+{
+    let mut b = [0u8; RECORD];
+    for i in 0..TURNS {
+        let n = read_full(input, &mut b)?;
+        take(&b[..n])?;
+        if n < RECORD {
+            return Ok(());
+        }
+    }
+    Ok(())
 }
 
 // A word's worth of bytes, the lowest first.
