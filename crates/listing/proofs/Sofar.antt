@@ -12,7 +12,10 @@ use lib.ListN.{length, take, drop, set, length-append}
 use borrow.Author.Tests.{lt-ltb, le-ltb}
 use Rattle.model.specs.declared.SearchBound.{SearchBound}
 use Rattle.model.specs.declared.Range.{Range}
-use Rattle.listing.specs.declared.Page.{Page}
+use Rattle.model.specs.declared.Answer.TheVariants.{Done}
+use Rattle.model.specs.declared.Listed.{Listed}
+use Rattle.model.specs.declared.Page.{Page}
+use Rattle.model.specs.Answer.{said_listed}
 use Rattle.model.specs.Tree.{Pair, Whole, plug, after}
 use Rattle.model.specs.Search.{Spot, at, gap}
 use Rattle.model.specs.Walk.{next_kv, next_edge}
@@ -25,7 +28,7 @@ use Rattle.model.proofs.Walks.{Ahead, next_kv_lem, next_edge_lem, start_edge, st
 use Rattle.slices.proofs.Laws.{set_two}
 use Rattle.search.specs.declared.Handle.{Handle}
 use Rattle.search.specs.Results.{leaf_edge}
-use Rattle.std.proofs.Common.{Some, None, is_some}
+use Rattle.std.proofs.Common.{Ok, Some, None, is_some}
 use Rattle.std.specs.Bool.{then_some}
 use Rattle.std.specs.Option.{MatchOption}
 use Rattle.navigate.specs.Places.{EdgeAt, KvAt, stepped}
@@ -158,7 +161,7 @@ module _ (q : Range) {s : State} (o : Sound s) where
 
   -- what lies after it, up to the end, is the range
   pub listed : (o₀ o₁ : List ℕ) (r : Page) → Lays (up_to q.end (after (start_edge q s.whole))) o₀ o₁ r
-      → (o₁ ≡ laid (listing q (room o₀) s) o₀) × (r ≡ record { wrote = length (listing q (room o₀) s); more = more_remain q (room o₀) s })
+      → (o₁ ≡ laid (listing q (room o₀) s) o₀) × (said_listed (Ok r) ≡ record { answer = Done; wrote = length (listing q (room o₀) s); more = more_remain q (room o₀) s })
   listed o₀ o₁ r l =
       let e = sym (range_is q s.whole o.rising) in
-      (l.written ∙ ap (λ (ps : List Pair). laid (take (room o₀) ps) o₀) e, l.said ∙ ap (λ (ps : List Pair). record { wrote = length (take (room o₀) ps); more = ltb (room o₀) (length ps) }) e)
+      (l.written ∙ ap (λ (ps : List Pair). laid (take (room o₀) ps) o₀) e, ap (λ (p : Page). said_listed (Ok p)) l.said ∙ ap {B = Listed} (λ (ps : List Pair). record { answer = Done; wrote = length (take (room o₀) ps); more = ltb (room o₀) (length ps) }) e)

@@ -2,7 +2,7 @@
 -- Assumes nothing.
 use Rattle.std.specs.Prelude.{ℕ, zero, ◌≡◌, List, ltb, length, take}
 use Rattle.model.specs.declared.SearchBound.{SearchBound}
-use Rattle.listing.specs.declared.Page.{Page}
+use Rattle.model.specs.declared.Page.{Page}
 use Rattle.model.specs.Tree.{Pair, Ctx, after}
 use Rattle.model.specs.Map.{up_to}
 use Rattle.model.specs.Promise.{room, laid}

@@ -6,14 +6,15 @@ ghost use Rattle.model.specs.Range.{bad_range, to_end};
 ghost use Rattle.model.specs.Tree.{after};
 ghost use Rattle.model.specs.State.{State};
 ghost use Rattle.model.specs.Promise.{Holds};
+ghost use Rattle.model.specs.Answer.{said_listed};
 ghost use Rattle.model.specs.Public.{Promised};
 ghost use Rattle.model.specs.Public as promise;
 ghost use Rattle.navigate.specs.Places.{In, EdgeAt};
 ghost use Rattle.listing.specs.Heads.{HeadOf, HeadUpTo};
 ghost use Rattle.listing.specs.Written.{Written};
 
-use checker::well_formed;
-use model::{Answer, Listed, Range, SearchBound};
+use checker::check;
+use model::{Page, Range, Refused, SearchBound};
 use navigate::{lower_leaf_edge, next_kv, next_leaf_edge};
 use node::{Kv, key, val};
 use search::Handle;
@@ -86,9 +87,13 @@ fn write_from(a: &[u64], from: Handle, end: SearchBound, out: &mut [u64]) -> Pag
     }
 }
 
-// TEMP
-#[derive(Clone, Copy)]
-pub struct Page {
-    pub wrote: usize,
-    pub more: bool,
+// Seeks the first pair of a range and walks on from there.
+pub fn list(a: &[u64], range: Range, out: &mut [u64]) -> Result<Page, Refused>
+    ensures { Promised (promise.list range out.old) a.now a.now out.new (said_listed result) }
+{
+    check(a)?;
+    if bad_range(range) {
+        return Err(Refused::BadRange);
+    }
+    Ok(write_from(a, lower_leaf_edge(a, range.start), range.end, out))
 }
