@@ -6,7 +6,7 @@ use mathlib.Core.Path.{◌≡◌, refl, sym, ap, ◌∙◌, subst}
 use mathlib.Core.Logic.{inl, inr}
 use mathlib.Core.List.{List}
 use lib.Dec.{lit<}
-use lib.ListN.{length, get_or, length-append}
+use lib.ListN.{length, length-append}
 use Rattle.model.specs.declared.Answer.TheVariants.{Done, NoRoom, BadArena, BadSize}
 use Rattle.model.specs.Layout.{Sized, header, pairs_word}
 use Rattle.model.specs.Tree.{before, after}

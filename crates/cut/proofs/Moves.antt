@@ -4,7 +4,7 @@ use Prim.Native.Nat.{ℕ, ◌-◌, ◌≤◌}
 use native.Mathlib.Omega.{arith}
 use mathlib.Core.Path.{◌≡◌, refl, sym, ap, ◌∙◌, subst}
 use mathlib.Core.List.{List, [], ◌∷◌, ◌++◌, append-nil, append_assoc}
-use lib.ListN.{length, get_or, length-append}
+use lib.ListN.{length, length-append}
 use Rattle.model.specs.Layout.{header, seen_word, mark_word, header_size}
 use Rattle.model.specs.Tree.{Pair, after}
 use Rattle.model.specs.State.{State, formatted}
@@ -29,7 +29,7 @@ use Rattle.appending.specs.Pushes.{LoadIn}
 use Rattle.appending.specs.Runs.{Ended, Tells}
 use Rattle.appending.proofs.Runs.{push_last, formatted_begun}
 use Rattle.std.proofs.Common.{Some, None}
-use Rattle.listing.specs.Heads.{Head, HeadOf}
+use Rattle.listing.specs.Heads.{HeadOf}
 use Rattle.cut.specs.Moves.{Moving, Upper}
 
 none_left : (l : List Pair) → length l ≤ 0 → l ≡ []
