@@ -1,27 +1,24 @@
 -- `checker::check_node`, `checker::check_child` and `checker::check_edges`, which call one another, meet their contracts.
 -- Assumes nothing.
 use native.Mathlib.Omega.{arith}
-use Rattle.std.proofs.Common.{◌≡◌, ◌+◌, refl, None, Some}
+use Rattle.std.proofs.Common.{refl, None, Some}
 use Rattle.inspect.specs.Tests.{reached}
 use Rattle.inspect.proofs.Decisions.{decided, refuted}
 use Rattle.checker.proofs.Nodes.{some_nodes, shape_own, shape_leads, edges_none, edge_next, key_next, edge_stop_to, key_stop, own_said, leaf_said, inner_said}
 use Rattle.checker.proofs.+check_edges_check_node.Goals as goal
 use Rattle.checker.proofs.+check_edges_check_node.Goals.{check_node-then-before-eq0-via-then-before-eq0, check_node-then-before-eq0-via-else-before-eq0+then-not-own}
 
+pub check_edges-loop-i-init : goal.check_edges-loop-i-init
+check_edges-loop-i-init g t c = (omega arith, edges_none g.F.Format.layout c.args.arena.now.words.now c.args.arena.now.count c.args.below c.args.node.0 c.args.before)
+
 pub check_edges-returns-in_err-w : goal.check_edges-returns-in_err-w
 check_edges-returns-in_err-w g t c =
     let x = c.args in
+    let l = c.loop-i in
     let w = x.arena.now.words.now in
     let count = x.arena.now.count in
-    rw c.from_residual.ensures (edge_stop_to g.F.Format.layout w count x.below x.node.0 0 x.n x.before (omega arith)
-    (edge_next g.F.Format.layout w count x.below x.node.0 0 (reached c.child.result) x.before x.before None c.child.ensures (edges_none g.F.Format.layout w count x.below x.node.0 x.before) c.in_err-w.ensures))
-
-pub check_edges-loop-i-init : goal.check_edges-loop-i-init
-check_edges-loop-i-init g t c =
-    let x = c.args in
-    let w = x.arena.now.words.now in
-    let count = x.arena.now.count in
-    edge_next g.F.Format.layout w count x.below x.node.0 0 (reached c.child.result) x.before x.before (Some c.in_ok-w.w) c.child.ensures (edges_none g.F.Format.layout w count x.below x.node.0 x.before) c.in_ok-w.ensures
+    rw c.from_residual.ensures (edge_stop_to g.F.Format.layout w count x.below x.node.0 l.i x.n x.before l.invariant.0
+    (edge_next g.F.Format.layout w count x.below x.node.0 l.i (reached c.child.result) x.before l.w None c.child.ensures l.invariant.1 c.in_err-w.ensures))
 
 pub check_edges-returns-in_err-w-2 : goal.check_edges-returns-in_err-w-2
 check_edges-returns-in_err-w-2 g t c =
@@ -29,18 +26,9 @@ check_edges-returns-in_err-w-2 g t c =
     let l = c.loop-i in
     let w = x.arena.now.words.now in
     let count = x.arena.now.count in
-    rw c.from_residual-in_err-w-2.ensures (key_stop g.F.Format.layout w count x.below x.node.0 l.i x.n x.before (omega arith)
-    (key_next g.F.Format.layout w count x.below x.node.0 l.i c.key.result x.before l.w None c.key.ensures l.invariant c.in_err-w-2.ensures))
-
-pub check_edges-returns-in_err-w-3 : goal.check_edges-returns-in_err-w-3
-check_edges-returns-in_err-w-3 g t c =
-    let x = c.args in
-    let l = c.loop-i in
-    let w = x.arena.now.words.now in
-    let count = x.arena.now.count in
-    let k = key_next g.F.Format.layout w count x.below x.node.0 l.i c.key.result x.before l.w (Some c.in_ok-w-2.w) c.key.ensures l.invariant c.in_ok-w-2.ensures in
-    rw c.from_residual-in_err-w-3.ensures (edge_stop_to g.F.Format.layout w count x.below x.node.0 (l.i + 1) x.n x.before (omega arith)
-    (edge_next g.F.Format.layout w count x.below x.node.0 (l.i + 1) (reached c.child-in-loop-i.result) x.before c.in_ok-w-2.w None c.child-in-loop-i.ensures k c.in_err-w-3.ensures))
+    let e = edge_next g.F.Format.layout w count x.below x.node.0 l.i (reached c.child.result) x.before l.w (Some c.in_ok-w.w) c.child.ensures l.invariant.1 c.in_ok-w.ensures in
+    rw c.from_residual-in_err-w-2.ensures (key_stop g.F.Format.layout w count x.below x.node.0 l.i x.n x.before (omega (arith, l.invariant.0, c.if-i-n.false))
+    (key_next g.F.Format.layout w count x.below x.node.0 l.i c.key.result x.before c.in_ok-w.w None c.key.ensures e c.in_err-w-2.ensures))
 
 pub check_edges-loop-i-preserved : goal.check_edges-loop-i-preserved
 check_edges-loop-i-preserved g t c =
@@ -48,11 +36,14 @@ check_edges-loop-i-preserved g t c =
     let l = c.loop-i in
     let w = x.arena.now.words.now in
     let count = x.arena.now.count in
-    let k = key_next g.F.Format.layout w count x.below x.node.0 l.i c.key.result x.before l.w (Some c.in_ok-w-2.w) c.key.ensures l.invariant c.in_ok-w-2.ensures in
-    edge_next g.F.Format.layout w count x.below x.node.0 (l.i + 1) (reached c.child-in-loop-i.result) x.before c.in_ok-w-2.w (Some c.in_ok-w-3.w) c.child-in-loop-i.ensures k c.in_ok-w-3.ensures
+    let e = edge_next g.F.Format.layout w count x.below x.node.0 l.i (reached c.child.result) x.before l.w (Some c.in_ok-w.w) c.child.ensures l.invariant.1 c.in_ok-w.ensures in
+    (omega (arith, l.invariant.0, c.if-i-n.false), key_next g.F.Format.layout w count x.below x.node.0 l.i c.key.result x.before c.in_ok-w.w (Some c.in_ok-w-2.w) c.key.ensures e c.in_ok-w-2.ensures)
 
-pub check_edges-returns : goal.check_edges-returns
-check_edges-returns g t c = let e : c.loop-i.i ≡ c.args.n = omega arith in rw e at c.loop-i.invariant
+pub check_edges-returns-then-i-n : goal.check_edges-returns-then-i-n
+check_edges-returns-then-i-n g t c =
+    let x = c.args in
+    let l = c.loop-i in
+    rw c.if-i-n.true at (edge_next g.F.Format.layout x.arena.now.words.now x.arena.now.count x.below x.node.0 l.i (reached c.child.result) x.before l.w (Some c.in_ok-w.w) c.child.ensures l.invariant.1 c.in_ok-w.ensures)
 
 pub check_node-returns-then-before-eq0 : goal.check_node-returns-then-before-eq0
 check_node-returns-then-before-eq0 g t c =
