@@ -24,12 +24,9 @@ fn count_leaves(a: &mut [u64], n: NodeNo)
     requires { Has a.old (λ hd ns. TreeIn ns n.0 1) }
     ensures { (hd : List ℕ) (ns : List NodeVal) (t : TreeIn ns n.0 1) → Arena a.old hd ns → EdgesIn a.new hd ns 0 t.tree }
 {
-    let last = len(a, n);
-    let mut i: usize = 0;
-    while i <= last {
+    for i in 0..=len(a, n) {
         let child = edge(a, n, Place(i));
         count_leaf(a, child);
-        i += 1;
     }
 }
 
@@ -58,11 +55,8 @@ fn count_edges(a: &mut [u64], n: NodeNo, below: usize)
     requires { Has a.old (λ hd ns. TreeIn ns n.0 (suc below)) }
     ensures { (hd : List ℕ) (ns : List NodeVal) (t : TreeIn ns n.0 (suc below)) → Arena a.old hd ns → EdgesIn a.new hd ns below t.tree }
 {
-    let m = len(a, n);
-    let mut i: usize = 0;
-    while i <= m {
+    for i in 0..=len(a, n) {
         let child = edge(a, n, Place(i));
         count_node(a, child, below);
-        i += 1;
     }
 }
