@@ -50,7 +50,7 @@ fn run(a: &mut [u64], code: u64, key: u64, val: u64) -> Answer
         Ok(Request::Get(key)) => look(a, key),
         Ok(Request::Delete(key)) => remove::delete(a, key),
         Ok(Request::Reserve(key)) => reserve::reserve(a, key),
-        Err(refusal) => Answer::from(refusal),
+        Err(unknown) => Answer::from(unknown),
     }
 }
 

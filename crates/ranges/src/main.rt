@@ -7,7 +7,7 @@ ghost use Rattle.std.specs.Prelude.{◌≡◌, ◌+◌, ◌*◌, ◌<◌, ◌≤
 use format::format;
 use listing::list;
 use map::get;
-use model::{Range, SearchBound};
+use model::{Listed, Range, SearchBound};
 use node::NONE;
 use std::io;
 use telling::{say, say_line};
@@ -88,11 +88,10 @@ fn one_leaf(a: &mut [u64; LONG]) {
 
 // Lists a range into an output, and tells all that is answered and what the output then holds.
 fn tell(rt: &impl Print, a: &[u64], range: Range, out: &mut [u64]) -> io::Result<()> {
-    let r = list(a, range, out);
-    let answer = r.answer;
-    say(rt, answer.number())?;
-    say(rt, r.wrote as u64)?;
-    say(rt, u64::from(r.more))?;
+    let listed = Listed::from(list(a, range, out));
+    let number = listed.answer.number();
+    let more = u64::from(listed.more);
+    print!(rt; "{number} {} {more} ", listed.wrote)?;
     say_line(rt, out)
 }
 

@@ -8,7 +8,7 @@ use batch::order;
 use format::format;
 use model::Answer;
 use std::io;
-use telling::{RECORD, each_record, say, say_answer, say_last, word_at};
+use telling::{RECORD, each_record, say_answer, word_at};
 
 // The words of 64 nodes.
 const LONG: usize = 2506;
@@ -36,10 +36,7 @@ fn run_all(rt: &(impl Input + Print), a: &mut [u64]) -> io::Result<()> {
 
 // Pairs, free nodes, seen and mark.
 fn last_line(rt: &impl Print, a: &[u64; LONG]) -> io::Result<()> {
-    say(rt, a[5])?;
-    say(rt, a[7])?;
-    say(rt, a[8])?;
-    say_last(rt, a[9])
+    println!(rt; "{} {} {} {}", a[5], a[7], a[8], a[9])
 }
 
 // Where a reading or a writing fails, the orders before it are done and were answered; nothing of the index outlives the call.
