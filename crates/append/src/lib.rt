@@ -25,7 +25,7 @@ ghost use Rattle.appending.specs.Stocks.{Stocks, StocksIn, Pushed, PushedIn};
 use balance::bulk_steal_left;
 use columns::{insert_word, set_len};
 use counting::count_node;
-use header::{HEIGHT, MARK, PAIRS, ROOT, SEEN};
+use header::{MARK, PAIRS, SEEN};
 use internal::{new_internal, push_internal_level};
 use node::{
     Ascent, CAPACITY, EDGES, KEYS, Kv, LEAF, MIN_LEN, NodeNo, Place, VALS, ascend, edge, len,
@@ -46,10 +46,8 @@ fn right_side(a: &mut [u64], levels: usize) -> RightSide
 {
     let leaf = take_node(a, LEAF);
     let mut top = leaf;
-    let mut i = 1;
-    while i < levels {
+    for _level in 1..levels {
         top = new_internal(a, top);
-        i += 1;
     }
     RightSide { top, leaf }
 }
@@ -66,7 +64,6 @@ fn open_node(a: &mut [u64], leaf: NodeNo) -> Opening
     requires { pushes.RisingIn a.old leaf.0 1 }
     ensures { (g : Rest) (p : Pair) (t : load.Loading) → pushes.Rising a.old g leaf.0 1 p t → pushes.Roomy a.new g result.node.0 result.levels p t }
 {
-    let top = a[HEIGHT] as usize;
     let mut node = leaf;
     let mut levels = 1;
     loop {
@@ -181,11 +178,9 @@ pub fn fix_right_border_of_plentiful(a: &mut [u64])
     requires { PushedIn a.old }
     ensures { (g : Rest) (t : Whole) (free : List ℕ) → Pushed a.old g t free → ClosedBy Uncounted a.new g (record { whole = load.plenty t; free = free }) }
 {
-    let mut node = NodeNo(a[ROOT] as usize);
-    let mut height = a[HEIGHT];
-    while height > 0 {
+    let mut node = header::root(a);
+    for _height in (0..header::height(a)).rev() {
         node = stock_right_child(a, node);
-        height -= 1;
     }
 }
 
@@ -207,16 +202,13 @@ pub fn bulk_push(a: &mut [u64], run: &[u64])
     requires { BegunIn a.old run.now }
     ensures { (g : Rest) → Begun a.old g (header a.old root_word) run.now → Ended a.new g (load.push_all (pairs_of run.now) load.begun) }
 {
-    let mut leaf = NodeNo(a[ROOT] as usize);
-    let mut count = 0;
-    let mut i = 0;
-    while i < run.len() {
-        let key = run[i];
-        let val = run[i + 1];
-        let last = push_on(a, leaf, count, Kv(key, val));
-        leaf = last.leaf;
-        count = last.count;
-        i += 2;
+    let mut last = LastLeaf {
+        leaf: header::root(a),
+        count: 0,
+    };
+    let (pairs, _) = run.as_chunks::<2>();
+    for &[key, val] in pairs {
+        last = push_on(a, last.leaf, last.count, Kv(key, val));
     }
 }
 
@@ -236,8 +228,8 @@ pub fn finish(a: &mut [u64], pairs: u64, seen: u64, mark: u64)
     ensures { (g : Rest) (ps : List Pair) (m : Mark) → Ended a.old g (load.push_all ps load.begun) → Tells m ps pairs seen mark → Sound (load.loaded_with m g.size ps) → a.new ≡ words_of (load.loaded_with m g.size ps) }
 {
     fix_right_border_of_plentiful(a);
-    let root = NodeNo(a[ROOT] as usize);
-    let below = a[HEIGHT] as usize;
+    let root = header::root(a);
+    let below = header::height(a);
     count_node(a, root, below);
     tell(a, pairs, seen, mark);
 }
@@ -271,16 +263,6 @@ pub fn rises(run: &[u64]) -> bool
     requires { Even (length run.now) }
     ensures { Decides result (Rising (pairs_of run.now)) }
 {
-    let n = run.len();
-    if n < 4 {
-        return true;
-    }
-    let mut i = 2;
-    while i < n {
-        if run[i] <= run[i - 2] {
-            return false;
-        }
-        i += 2;
-    }
-    true
+    let (pairs, _) = run.as_chunks::<2>();
+    pairs.is_sorted_by(|pair, next| pair[0] < next[0])
 }

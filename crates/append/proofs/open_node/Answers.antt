@@ -17,9 +17,6 @@ use Rattle.append.proofs.open_node.Goals.{At-loop-parent, Else-len-lt-CAPACITY}
 known : (c : At-loop-parent) → let s = c.requires in Rising c.loop-parent.a s.rest c.loop-parent.node.0 c.loop-parent.levels s.pair s.end
 known c = let s = c.requires in c.loop-parent.invariant.1 s.rest s.pair s.end s.rising
 
-pub bounds-a-4 : goal.bounds-a-4
-bounds-a-4 c = rising_head c.requires.rising
-
 pub loop-parent-init : goal.loop-parent-init
 loop-parent-init c = (refl, λ g p t k. k)
 
