@@ -12,7 +12,6 @@ ghost use Rattle.format.specs.Formatting.{chain_after, empty_node, free_nodes};
 use header::{COUNT, FIRST_FREE, FORMAT, FREE_NODES, OFFSET, node_count};
 use model::Answer;
 use node::{FREE, HEADER, LEAF, NONE, NodeNo, PARENT, STATE, WORDS, node_base};
-use slices::clear;
 
 // The node after n in the chain, or NONE.
 fn next(n: usize, count: usize) -> u64
@@ -32,7 +31,7 @@ fn write_header(s: &mut [u64], count: usize)
 {
     let first = next(0, count);
     let free = count - 1;
-    clear(s);
+    s.fill(0);
     s[FORMAT] = 2;
     s[COUNT] = count as u64;
     s[OFFSET] = HEADER as u64;
@@ -41,11 +40,11 @@ fn write_header(s: &mut [u64], count: usize)
 }
 
 // The words of a node with no pairs.
-fn write_node(s: &mut [u64], state: u64, link: u64)
+pub fn write_node(s: &mut [u64], state: u64, link: u64)
     requires { length s.old ≡ node_size }
     ensures { s.new ≡ node_words (empty_node state link) }
 {
-    clear(s);
+    s.fill(0);
     s[STATE] = state;
     s[PARENT] = link;
 }
@@ -55,12 +54,10 @@ fn write_chain(a: &mut [u64], count: usize)
     requires { Sized count (length a.old) }
     ensures { a.new ≡ take (base 1) a.old ++ cells (free_nodes 1 (count - 1)) }
 {
-    let mut i: usize = 1;
-    while i < count {
+    for i in 1..count {
         let b = node_base(NodeNo(i));
         let e = b + WORDS;
         write_node(&mut a[b..e], FREE, next(i, count));
-        i += 1;
     }
 }
 
@@ -80,10 +77,9 @@ pub fn write_all(a: &mut [u64], count: usize)
 pub fn format(a: &mut [u64]) -> Answer
     ensures { Promised promise.format a.old a.new tt result }
 {
-    let count = node_count(a.len());
-    if count == 0 {
+    let Some(count) = node_count(a.len()) else {
         return Answer::BadSize;
-    }
+    };
     write_all(a, count);
     Answer::Done
 }

@@ -1,16 +1,10 @@
 -- `format::format` meets its contract.
 -- Assumes nothing.
-use Rattle.header.proofs.Headed.{sized}
 use Rattle.format.proofs.Formatted.{refused, done}
 use Rattle.format.proofs.format.Goals as goal
 
-pub returns-then-count-eq0 : goal.returns-then-count-eq0
-returns-then-count-eq0 c = refused _ _ c.if-count-eq0.true c.node_count-count.ensures
-
-pub write_all-requires : goal.write_all-requires
-write_all-requires c = sized _ _ c.if-count-eq0.false c.node_count-count.ensures
+pub returns-in_default : goal.returns-in_default
+returns-in_default c = refused _ (c.in_default.ensures)
 
 pub returns : goal.returns
-returns c =
-    let e = c in
-    done _ _ _ (sized _ _ e.if-count-eq0.false e.node_count-count.ensures) c.write_all.ensures
+returns c = done _ _ _ (c.in-Some.ensures) c.write_all.ensures
