@@ -9,7 +9,7 @@ ghost use Rattle.node.specs.Reading.{Within};
 ghost use Rattle.standing.specs.Heads.{Rest};
 ghost use Rattle.fix.specs.Repairs.{Merges, MergeCall, Stealing, StealCall, Mending, Mends, Emptied, chosen, Fixing, Ended};
 
-use node::{Ascent, CAPACITY, MIN_LEN, NodeNo, Place, ascend, edge, len};
+use node::{CAPACITY, MIN_LEN, NodeNo, Place, ascend, edge, len};
 use totals::{set_right, settle};
 
 // Two neighbours, and the place of the pair between them in their parent.
@@ -42,7 +42,7 @@ pub fn choose_parent_kv(a: &[u64], node: NodeNo) -> ParentKv
     requires { Mends a.now node.0 }
     ensures { (g : Rest) (t : Grown) (m : Mending a.now g node.0 t) → result ≡ chosen m.way m.tree }
 {
-    let Ascent::Edge(parent, idx) = ascend(a, node) else {
+    let Some((parent, idx)) = ascend(a, node) else {
         return ParentKv::Root;
     };
     let i = idx.0;
