@@ -5,12 +5,13 @@ ghost use Rattle.std.specs.Prelude.{◌≡◌, ◌-◌, ◌<◌, ◌≤◌, ◌+
 ghost use Rattle.model.specs.Layout.{Sized, base, cells, header_size, largest_count, node_size, node_words};
 ghost use Rattle.model.specs.State.{formatted};
 ghost use Rattle.model.specs.Words.{first_or, header_of, words_of};
+ghost use Rattle.model.specs.Answer.{said_done};
 ghost use Rattle.model.specs.Public.{Promised};
 ghost use Rattle.model.specs.Public as promise;
 ghost use Rattle.format.specs.Formatting.{chain_after, empty_node, free_nodes};
 
 use header::{COUNT, FIRST_FREE, FORMAT, FREE_NODES, OFFSET, node_count};
-use model::Answer;
+use model::Refused;
 use node::{FREE, HEADER, LEAF, NONE, NodeNo, PARENT, STATE, WORDS, node_base};
 
 // The node after n in the chain, or NONE.
@@ -74,12 +75,10 @@ pub fn write_all(a: &mut [u64], count: usize)
 }
 
 // Formats the words; BadSize for a length that no arena has.
-pub fn format(a: &mut [u64]) -> Answer
-    ensures { Promised promise.format a.old a.new tt result }
+pub fn format(a: &mut [u64]) -> Result<(), Refused>
+    ensures { Promised promise.format a.old a.new tt (said_done result) }
 {
-    let Some(count) = node_count(a.len()) else {
-        return Answer::BadSize;
-    };
+    let count = node_count(a.len()).ok_or(Refused::BadSize)?;
     write_all(a, count);
-    Answer::Done
+    Ok(())
 }
