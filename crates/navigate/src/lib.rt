@@ -116,8 +116,7 @@ pub fn lower_leaf_edge(a: &[u64], start: SearchBound) -> Handle
     let mut bound = start;
     loop {
         let part = keys(a, node);
-        let low = find_lower_bound_index(part, bound);
-        let at = low.at;
+        let (at, below) = find_lower_bound_index(part, bound);
         if height == 0 {
             return Handle {
                 node,
@@ -125,7 +124,7 @@ pub fn lower_leaf_edge(a: &[u64], start: SearchBound) -> Handle
                 at,
             };
         }
-        bound = low.bound;
+        bound = below;
         node = edge(a, node, at);
         height -= 1;
     }

@@ -5,7 +5,6 @@ use native.Mathlib.Decide.{dec_lt}
 use native.Mathlib.Numerals.{sub-one, add-one}
 use native.Mathlib.Omega.{arith}
 use mathlib.Core.Path.{◌≡◌, refl, sym, ap, ap₂, ◌∙◌, subst}
-use mathlib.Core.Bool.{Bool, true, false}
 use mathlib.Core.List.{List, [], ◌∷◌, ◌++◌}
 use mathlib.Core.Option.{some}
 use lib.Dec.{lit<}
@@ -25,10 +24,10 @@ use Rattle.model.proofs.Bounds.{few}
 use Rattle.model.proofs.Backward.{header_is, backward}
 use Rattle.model.proofs.Forks.{starts, hole_at, open_length, open_fill, lower_step, lower_inside}
 use Rattle.model.proofs.Standing.{At, stands, below_at, short_at}
-use Rattle.search.specs.declared.BoundEdge.{BoundEdge}
+use Rattle.node.specs.declared.Place.{Place}
 use Rattle.search.specs.Results.{edged}
 use Rattle.search.proofs.Descents.{keys_are}
-use Rattle.ranks.specs.Picks.{EdgeIn, NodeIn, Here, Onward, PassingBy, Picking}
+use Rattle.ranks.specs.Picks.{EdgeIn, NodeIn, Here, Onward, Picking}
 
 -- ---- the first edges of a node
 
@@ -113,7 +112,7 @@ pub record Sinking (z : Ctx zero) (s : State) (b : SearchBound) (n h sum : ℕ) 
   pub same : z ≡ sink (starts b) (suc h) place.ctx place.tree
   pub sum_is : sum ≡ length (before place.ctx)
 
-module _ (z : Ctx zero) {w : List ℕ} {s : State} (o : Holds w s) (b : SearchBound) (n sum : ℕ) (ks : List ℕ) (q : ks ≡ part w (base n + keys_word) (word_at w n length_word)) (l : BoundEdge) (el : l ≡ edged (lower_edge b ks)) where
+module _ (z : Ctx zero) {w : List ℕ} {s : State} (o : Holds w s) (b : SearchBound) (n sum : ℕ) (ks : List ℕ) (q : ks ≡ part w (base n + keys_word) (word_at w n length_word)) (l : Place × SearchBound) (el : l ≡ edged (lower_edge b ks)) where
   abbrev low_at : {h : ℕ} → At s n h → range.BoundEdge
   low_at p = lower_edge b (keys_of p.tree.rest)
 
@@ -123,21 +122,21 @@ module _ (z : Ctx zero) {w : List ℕ} {s : State} (o : Holds w s) (b : SearchBo
   low_in : {h : ℕ} (p : At s n h) → (low_at p).at ≤ length p.tree.rest
   low_in p = simp length-map at (lower_inside b (keys_of p.tree.rest))
 
-  pub low_inside : {h : ℕ} (p : At s n h) → l.at.0 ≤ length p.tree.rest
+  pub low_inside : {h : ℕ} (p : At s n h) → l.0.0 ≤ length p.tree.rest
   low_inside p = rw (low_is p) (low_in p)
 
   rises : {h : ℕ} (p : At s n h) → Rising (flat_of (plug p.ctx p.tree))
   rises p = subst (λ (x : Whole). Rising (flat_of x)) (sym p.whole) o.sound.rising
 
-  pub sunk : (h : ℕ) → Sinking z s b n h sum → h ≡ 0 → sum + l.at.0 ≡ length (before z)
+  pub sunk : (h : ℕ) → Sinking z s b n h sum → h ≡ 0 → sum + l.0.0 ≡ length (before z)
   sunk zero y e =
       let p = y.place in
       let i = (low_at p).at in
       rw (low_is p) (sym (ap (λ (c : Ctx zero). length (before c)) (y.same ∙ lower_step b p.ctx p.tree (rises p)) ∙ (length-append (before p.ctx) (lefts (flat 0) (open_at i [] p.tree.first p.tree.rest).left) ∙ omega (arith, y.sum_is, left_is 0 p.tree i (low_in p), gaps_none i p.tree.first p.tree.rest))))
   sunk (suc h) y e = absurd (omega arith)
 
-  pub sinking_on : (h : ℕ) → Sinking z s b n h sum → (h ≡ 0 → ⊥) → (x : ℕ) → ((k : ℕ) (p : At s n (suc k)) → l.at.0 ≤ length p.tree.rest → x ≡ length (lefts (flat (suc k)) (open_at l.at.0 [] p.tree.first p.tree.rest).left))
-      → (m : ℕ) → m ≡ word_at w n (edges_word + l.at.0) → Sinking z s l.bound m (h - 1) (sum + x)
+  pub sinking_on : (h : ℕ) → Sinking z s b n h sum → (h ≡ 0 → ⊥) → (x : ℕ) → ((k : ℕ) (p : At s n (suc k)) → l.0.0 ≤ length p.tree.rest → x ≡ length (lefts (flat (suc k)) (open_at l.0.0 [] p.tree.first p.tree.rest).left))
+      → (m : ℕ) → m ≡ word_at w n (edges_word + l.0.0) → Sinking z s l.1 m (h - 1) (sum + x)
   sinking_on zero y e x ex m em = absurd (e refl)
   sinking_on (suc h) y e x ex m em =
       let p = y.place in
@@ -150,21 +149,21 @@ module _ (z : Ctx zero) {w : List ℕ} {s : State} (o : Holds w s) (b : SearchBo
         sum_is = sym (length-append (before p.ctx) (lefts (flat (suc h)) (open_at i [] p.tree.first p.tree.rest).left) ∙ omega (arith, y.sum_is, k));
       })
 
-  pub edge_ready : (h : ℕ) → Sinking z s b n h sum → (h ≡ 0 → ⊥) → EdgeIn s n l.at.0
+  pub edge_ready : (h : ℕ) → Sinking z s b n h sum → (h ≡ 0 → ⊥) → EdgeIn s n l.0.0
   edge_ready zero y e = absurd (e refl)
   edge_ready (suc h) y e = record { height = h; place = y.place; inside = low_inside y.place }
 
-  pub low_few : (h : ℕ) → Sinking z s b n h sum → (sum + l.at.0 ≤ most * largest_count + most) × (l.at.0 ≤ most)
+  pub low_few : (h : ℕ) → Sinking z s b n h sum → (sum + l.0.0 ≤ most * largest_count + most) × (l.0.0 ≤ most)
   low_few h y =
       let p = y.place in
       (omega (arith, y.sum_is, few_before o p, low_inside p, short_at (stands o p)), omega (arith, low_inside p, short_at (stands o p)))
 
-  pub sink_few : (h : ℕ) → Sinking z s b n h sum → (h ≡ 0 → ⊥) → (x : ℕ) → ((k : ℕ) (p : At s n (suc k)) → l.at.0 ≤ length p.tree.rest → x ≡ length (lefts (flat (suc k)) (open_at l.at.0 [] p.tree.first p.tree.rest).left))
+  pub sink_few : (h : ℕ) → Sinking z s b n h sum → (h ≡ 0 → ⊥) → (x : ℕ) → ((k : ℕ) (p : At s n (suc k)) → l.0.0 ≤ length p.tree.rest → x ≡ length (lefts (flat (suc k)) (open_at l.0.0 [] p.tree.first p.tree.rest).left))
       → sum + x ≤ most * largest_count + (most * largest_count + most)
   sink_few zero y e x ex = absurd (e refl)
   sink_few (suc h) y e x ex =
       let p = y.place in
-      omega (arith, y.sum_is, few_before o p, ex h p (low_inside p), left_is (suc h) p.tree l.at.0 (low_inside p), sum_few o p l.at.0, low_inside p, short_at (stands o p))
+      omega (arith, y.sum_is, few_before o p, ex h p (low_inside p), left_is (suc h) p.tree l.0.0 (low_inside p), sum_few o p l.0.0, low_inside p, short_at (stands o p))
 
 -- ---- a rank in a list of two parts
 
@@ -224,6 +223,10 @@ module _ (h : ℕ) (t : Tree (suc h)) (k i j : ℕ) (C : Coming h t k i j) where
   -- below the edge
   pub coming_down : j < length (flat h (hole_at t i)) → Onward h t k i j
   coming_down l = record { inside = C.inside; same = C.same ∙ nth_left j (flat h H) (flats (flat h) R) l; more = l }
+
+  -- behind the last pair it is below the last edge
+  pub coming_last : length t.rest ≤ i → Onward h t k i j
+  coming_last l = coming_down (omega (arith, C.more, length-append (flat h H) (flats (flat h) R), ap (λ (r : List (Item (Tree h))). length (flats (flat h) r)) (no_right i [] t.first t.rest l)))
 
   module _ (l : length (flat h (hole_at t i)) ≤ j) where
     pub past_edge : i < length t.rest
@@ -314,31 +317,16 @@ seeking_on o (suc h) z S i r x m e =
     let y = x h S.place S.more in
     rw (sub-one (suc h)) (record { place = below_at o S.place i m y.inside e; same = S.same ∙ y.same; more = y.more })
 
--- what the edges passed tell, by whether the pair is there
-here_is : (b : Bool) → b ≡ true → (h : ℕ) (t : Tree (suc h)) (k i j : ℕ) → PassingBy b h t k i j → Here h t k i
-here_is true e h t k i j x = x
-here_is false e h t k i j x = let z : ◌≡◌ {A = ℕ} 0 1 = cc in absurd (omega arith)
-
-onward_is : (b : Bool) → b ≡ false → (h : ℕ) (t : Tree (suc h)) (k i j : ℕ) → PassingBy b h t k i j → Onward h t k i j
-onward_is false e h t k i j x = x
-onward_is true e h t k i j x = let z : ◌≡◌ {A = ℕ} 0 1 = cc in absurd (omega arith)
-
-abbrev pub PassCall : State → ℕ → ℕ → Bool → ℕ → ℕ → Type 0
-PassCall s n j b i r = (g : ℕ) (p : At s n (suc g)) → j < length (flat (suc (suc g)) p.tree) → PassingBy b (suc g) p.tree j i r
-
+-- what a call of pass_edges tells at a node n that the rank j has come to
 module _ {s : State} {k n j : ℕ} where
   pub node_ready : (h : ℕ) → (h ≡ 0 → ⊥) → Seeking s k n h j → NodeIn s n j
   node_ready zero z S = absurd (z refl)
   node_ready (suc h) z S = record { height = h; place = S.place; more = S.more }
 
-  pub picked_inner : (h : ℕ) → (h ≡ 0 → ⊥) → Seeking s k n h j → (b : Bool) (i r : ℕ) → b ≡ true → PassCall s n j b i r → Picking s k (record { node = record { 0 = n }; height = h; at = record { 0 = i } })
-  picked_inner zero z S b i r e x = absurd (z refl)
-  picked_inner (suc h) z S b i r e x = picked_at S (here_is b e (suc h) S.place.tree j i r (x h S.place S.more))
+  pub picked_inner : (h : ℕ) → (h ≡ 0 → ⊥) → Seeking s k n h j → (i : ℕ) → ((g : ℕ) (p : At s n (suc g)) → j < length (flat (suc (suc g)) p.tree) → Here (suc g) p.tree j i) → Picking s k (record { node = record { 0 = n }; height = h; at = record { 0 = i } })
+  picked_inner zero z S i x = absurd (z refl)
+  picked_inner (suc h) z S i x = picked_at S (x h S.place S.more)
 
-  module _ {w : List ℕ} (o : Holds w s) where
-    pub inner_edge : (h : ℕ) → (h ≡ 0 → ⊥) → Seeking s k n h j → (b : Bool) (i r : ℕ) → b ≡ false → PassCall s n j b i r → (base n + 39 ≤ length w) × (i ≤ most)
-    inner_edge zero z S b i r e x = absurd (z refl)
-    inner_edge (suc h) z S b i r e x = edge_in o S.place i (onward_is b e (suc h) S.place.tree j i r (x h S.place S.more)).inside
-
-    pub seeking_down : (h : ℕ) → (h ≡ 0 → ⊥) → Seeking s k n h j → (b : Bool) (i r : ℕ) → b ≡ false → PassCall s n j b i r → (m : ℕ) → m ≡ word_at w n (edges_word + i) → Seeking s k m (h - 1) r
-    seeking_down h z S b i r e x m em = seeking_on o h z S i r (λ g p u. onward_is b e (suc g) p.tree j i r (x g p u)) m em
+  pub inner_edge : {w : List ℕ} (o : Holds w s) (h : ℕ) → (h ≡ 0 → ⊥) → Seeking s k n h j → (i r : ℕ) → ((g : ℕ) (p : At s n (suc g)) → j < length (flat (suc (suc g)) p.tree) → Onward (suc g) p.tree j i r) → (base n + 39 ≤ length w) × (i ≤ most)
+  inner_edge o zero z S i r x = absurd (z refl)
+  inner_edge o (suc h) z S i r x = edge_in o S.place i (x h S.place S.more).inside
