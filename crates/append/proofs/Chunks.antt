@@ -1,6 +1,6 @@
 -- A run in chunks of two words: each is a pair, and the run rises where the chunks' first words do.
 -- Assumes nothing.
-use Rattle.std.proofs.Common.{ℕ, zero, suc, ◌+◌, ◌≤◌, ◌<◌, ◌≡◌, ap, sym, Bool, true, false, List, [], ◌∷◌, length, get_or, arith, refl, ◌∙◌}
+use Rattle.std.proofs.Common.{ℕ, zero, suc, ◌+◌, ◌≤◌, ◌<◌, ◌≡◌, ap, sym, Bool, true, false, List, [], ◌∷◌, length, get_or, arith, refl}
 use Rattle.std.specs.List.{IsAllAdjacentAnswer}
 use Rattle.std.specs.Simd.{first_chunks}
 use lib.Dec.{ltb}

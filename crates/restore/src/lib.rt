@@ -49,10 +49,7 @@ fn too_old(image: &[u64], a: &[u64], older: bool) -> bool
     requires { (header_size ≤ length image.now) × (header_size ≤ length a.now) }
     ensures { Decides result ((older ≡ false) × (mark.lower (mark.stored_mark image.now) (mark.stored_mark a.now) ≡ true)) }
 {
-    if older {
-        return false;
-    }
-    lower(image, a)
+    !older && lower(image, a)
 }
 
 // Copies the image's words over the arena; seen is 1 if either had it, and the mark is the larger of those seen. It is raised first. An

@@ -1,10 +1,9 @@
 -- `append::bulk_push` meets its contract: so many pairs of the run are pushed.
 -- Assumes nothing.
-use Rattle.std.proofs.Common.{[], ℕ, List, ◌+◌, ◌/◌, ◌≤◌, ◌<◌, ◌≡◌, refl, sym, ◌∙◌, length, take, get_or, arith}
+use Rattle.std.proofs.Common.{[], ℕ, List, ◌+◌, ◌/◌, ◌≤◌, ◌≡◌, refl, sym, ◌∙◌, length, take, get_or, arith}
 use mathlib.Core.Path.{subst}
 use lib.Seq.{take_all}
 use Rattle.std.specs.Simd.{first_chunks}
-use Rattle.model.specs.Tree.{Pair}
 use Rattle.standing.specs.Heads.{Rest}
 use Rattle.model.specs.Load.{Loading, push, push_all, begun, pairs_of}
 use Rattle.model.specs.Layout.{header, root_word}

@@ -9,7 +9,7 @@ use Rattle.model.specs.Tree.{Pair}
 use Rattle.standing.specs.Heads.{Rest}
 use Rattle.model.specs.Load.{Loading}
 use Rattle.appending.specs.Pushes.{Rising}
-use Rattle.appending.proofs.Climbs.{rising_within, rising_low, rising_few, rising_head, above_within, above_roomy, above_full, rooting}
+use Rattle.appending.proofs.Climbs.{rising_within, rising_low, rising_few, above_within, above_roomy, above_full, rooting}
 use Rattle.append.proofs.open_node.Goals as goal
 use Rattle.append.proofs.open_node.Goals.{At-loop-parent, Else-len-lt-CAPACITY}
 

@@ -1,6 +1,6 @@
 -- `append::rises` meets its contract: each chunk and the next decide.
 -- Assumes nothing.
-use Rattle.std.proofs.Common.{◌≡◌, ◌/◌, ◌+◌, ℕ, List, length, get_or, arith, rules}
+use Rattle.std.proofs.Common.{◌≡◌, ◌/◌, ℕ, List, length, get_or, arith, rules}
 use Rattle.std.specs.Simd.{first_chunks}
 use lib.Dec.{ltb}
 use Rattle.std.proofs.lemmas.Fn.{always_returns_same}

@@ -1,7 +1,7 @@
 -- `append::tell` meets its contract.
 -- Assumes nothing.
 use lib.Dec.{lit<}
-use Rattle.std.proofs.Common.{sym, arith}
+use Rattle.std.proofs.Common.{arith}
 use lib.ListN.{length-set}
 use Rattle.model.specs.Layout.{pairs_word, seen_word, mark_word}
 use Rattle.store.proofs.Chain.{head_put}

@@ -1,7 +1,7 @@
 -- `format::write_chain` meets its contract: what is written so far, with the nodes still to come, is all of it.
 -- Assumes nothing.
 use Rattle.std.proofs.Common.{◌≡◌, refl, ◌∙◌, ◌+◌, ◌<◌, length, arith}
-use Rattle.format.proofs.Formatted.{turn, turn_long, chain_done}
+use Rattle.format.proofs.Formatted.{turn, chain_done}
 use Rattle.model.specs.Layout.{base, node_size}
 use Rattle.format.proofs.write_chain.Goals as goal
 

@@ -1,6 +1,6 @@
 -- `load::load` meets its contract.
 -- Assumes nothing.
-use Rattle.std.proofs.Common.{ℕ, ◌/◌, ◌≤◌, ◌≡◌, List, length, arith}
+use Rattle.std.proofs.Common.{ℕ, ◌≡◌, List, length, arith}
 use Rattle.model.specs.Layout.{Sized}
 use Rattle.model.specs.Map.{Rising}
 use Rattle.model.specs.State.{formatted}

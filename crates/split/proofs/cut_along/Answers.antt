@@ -1,7 +1,6 @@
 -- `split::cut_along` meets its contract: wherever it was going where the loop began, it is going still.
 -- Assumes nothing.
 use Rattle.std.proofs.Common.{ℕ, List, ◌-◌, ◌+◌, ◌≤◌, ◌≡◌, sym, ◌∙◌, arith}
-use mathlib.Core.Path.{subst}
 use Rattle.model.specs.Layout.{header, height_word}
 use Rattle.node.proofs.Reading.{arena_length}
 use Rattle.cutting.specs.Trims.{Goal, Trims}

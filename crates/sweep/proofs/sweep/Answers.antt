@@ -1,6 +1,6 @@
 -- `sweep::sweep` meets its contract: the nodes from n on are swept, and the chain so far is theirs.
 -- Assumes nothing.
-use Rattle.std.proofs.Common.{◌-◌, ◌≤◌, ◌≡◌, refl, sym, ◌∙◌, arith, length}
+use Rattle.std.proofs.Common.{◌-◌, ◌≤◌, ◌≡◌, sym, ◌∙◌, arith, length}
 use lib.Dec.{lit<}
 use Rattle.model.specs.Layout.{count_word}
 use Rattle.node.proofs.Reading.{arena_length, within}
