@@ -6,7 +6,7 @@ ghost use Rattle.model.specs.Layout.{header_size, header, format_word, count_wor
 ghost use Rattle.model.specs.Mark.{seen_of, mark_of, stored_mark};
 ghost use Rattle.header.specs.Headers.{Counted, marked, raised};
 
-use node::{HEADER, NodeNo, WORDS, larger};
+use node::{HEADER, NodeNo, WORDS};
 
 // The places of its words.
 pub const FORMAT: usize = 0;
@@ -109,16 +109,14 @@ pub fn count_on(a: &mut [u64])
     requires { (header_size ≤ length a.old) × (header a.old pairs_word + 1 < 18446744073709551616) }
     ensures { a.new ≡ set a.old pairs_word (header a.old pairs_word + 1) }
 {
-    let more = a[PAIRS] + 1;
-    a[PAIRS] = more;
+    a[PAIRS] += 1;
 }
 
 pub fn count_off(a: &mut [u64])
     requires { (header_size ≤ length a.old) × (1 ≤ header a.old pairs_word) }
     ensures { a.new ≡ set a.old pairs_word (header a.old pairs_word - 1) }
 {
-    let left = a[PAIRS] - 1;
-    a[PAIRS] = left;
+    a[PAIRS] -= 1;
 }
 
 // The first free node, or NONE, and how many are free.
@@ -164,8 +162,7 @@ pub fn raise_mark(a: &mut [u64], key: u64)
     requires { header_size ≤ length a.old }
     ensures { a.new ≡ raised key a.old }
 {
-    let mark = larger(a[MARK], key);
-    a[MARK] = mark;
+    a[MARK] = a[MARK].max(key);
     a[SEEN] = 1;
 }
 
