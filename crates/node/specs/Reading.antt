@@ -9,6 +9,7 @@ use Rattle.node.specs.declared.Ascent.{Ascent}
 use Rattle.node.specs.declared.Ascent.TheVariants.{Edge, Root}
 use Rattle.node.specs.declared.Rising.{Rising}
 use Rattle.node.specs.declared.LeftOrRight.{LeftOrRight}
+use Rattle.node.specs.declared.Place.{Place}
 use Rattle.node.specs.declared.LeftOrRight.TheVariants.{Left, Right}
 
 -- the words of node n are among w
@@ -30,7 +31,7 @@ ascent_of p i =
       | false ↦ Edge (record { 0 = p }) (record { 0 = i })
     ]
 
-abbrev pub side_of : Side → ℕ → LeftOrRight
+abbrev pub side_of : Side → ℕ → LeftOrRight Place
 side_of left i = Left (record { 0 = i })
 side_of right i = Right (record { 0 = i })
 
