@@ -78,14 +78,9 @@ fn open_words(s: &mut [u64], at: usize, x: u64)
     requires { (length s.old ≡ most) × (at < most) }
     ensures { s.new ≡ take (length s.old) (insert_at s.old at x) }
 {
-    let mut j = CAPACITY - 1;
-    while 0 < j {
-        let mut t = s[j];
-        if at < j {
-            t = s[j - 1];
-        }
-        s[j] = t;
-        j -= 1;
+    for j in (1..CAPACITY).rev() {
+        let from = if at < j { j - 1 } else { j };
+        s[j] = s[from];
     }
     s[at] = x;
 }
@@ -96,14 +91,9 @@ fn close_words(s: &mut [u64], at: usize) -> u64
     ensures { (result ≡ get_or s.old at 0) × (s.new ≡ remove_at s.old at ++ 0 ∷ []) }
 {
     let x = s[at];
-    let mut j = 0;
-    while j < CAPACITY - 1 {
-        let mut t = s[j];
-        if at <= j {
-            t = s[j + 1];
-        }
-        s[j] = t;
-        j += 1;
+    for j in 0..CAPACITY - 1 {
+        let from = if at <= j { j + 1 } else { j };
+        s[j] = s[from];
     }
     s[CAPACITY - 1] = 0;
     x

@@ -28,7 +28,7 @@ use Rattle.node.specs.declared.NodeNo.{NodeNo}
 use Rattle.node.specs.declared.Place.{Place}
 use Rattle.search.specs.declared.Handle.{Handle}
 use Rattle.search.specs.Results.{leaf_edge}
-use Rattle.navigate.specs.declared.Next.TheVariants.{Kv, End}
+use Rattle.std.proofs.Common.{Some, None}
 use Rattle.navigate.specs.Places.{InTree, EdgeAt, KvAt, stepped}
 use Rattle.navigate.proofs.Pairs.{step_placed, kv_within, kv_key, kv_val}
 use Rattle.navigate.proofs.Steps.{climb_top}
@@ -44,11 +44,11 @@ use Rattle.cursor.specs.Cursors.{stop_of, stand_of, cursor_of, moved_of, standin
 -- ---- where a step ends
 
 -- no pair
-pub none_arrived : (n : ℕ) (end : on.Stand) (p : Spot) → End ≡ stepped p → record { cursor = record { changes = n; stand = end }; found = picked none } ≡ arrived n end p
+pub none_arrived : (n : ℕ) (end : on.Stand) (p : Spot) → None ≡ stepped p → record { cursor = record { changes = n; stand = end }; found = picked none } ≡ arrived n end p
 none_arrived n end (gap c) e = refl
 none_arrived n end (at c m l x y r) e = let z : ◌≡◌ {A = ℕ} 0 1 = cc in absurd (omega arith)
 
-module _ {w : List ℕ} {s : State} (o : Holds w s) (p : Spot) (i : InTree s.whole p) (d : Handle) (e : Kv d ≡ stepped p) where
+module _ {w : List ℕ} {s : State} (o : Holds w s) (p : Spot) (i : InTree s.whole p) (d : Handle) (e : Some d ≡ stepped p) where
   pub pair_within : (base d.node.0 + node_size ≤ length w) × (d.at.0 < most)
   pair_within = kv_within d (step_placed p d e i).kv o
 

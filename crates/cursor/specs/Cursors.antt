@@ -1,12 +1,12 @@
 -- The code's cursor as the model's, and what its steps ask for.
 -- Assumes nothing.
-use Rattle.std.specs.Prelude.{ℕ, ◌≡◌}
+use Rattle.std.specs.Prelude.{ℕ, ◌≡◌, Option}
 use Rattle.model.specs.Search.{Spot}
 use Rattle.model.specs.State.{State, At}
 use Rattle.model.specs.Cursor as on
 use Rattle.node.specs.declared.NodeNo.{NodeNo}
 use Rattle.node.specs.declared.Place.{Place}
-use Rattle.navigate.specs.declared.Next.{Next}
+use Rattle.search.specs.declared.Handle.{Handle}
 use Rattle.navigate.specs.Places.{InTree, stepped}
 use Rattle.cursor.specs.declared.Stand.{Stand}
 use Rattle.cursor.specs.declared.Stand.TheVariants.{Before, At as OnPair, Past}
@@ -32,7 +32,7 @@ abbrev pub standing : ℕ → NodeNo → Place → on.Cursor
 standing n m i = record { changes = n; stand = on.on (stop_of m i) }
 
 -- where a step has ended
-pub record Stepping (s : State) (to : Next) : Type 0 where
+pub record Stepping (s : State) (to : Option Handle) : Type 0 where
   pub spot : Spot
   pub inside : InTree s.whole spot
   pub is : to ≡ stepped spot

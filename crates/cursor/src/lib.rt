@@ -17,7 +17,7 @@ ghost use Rattle.cursor.specs.Cursors.{stop_of, stand_of, cursor_of, moved_of, s
 use checker::well_formed;
 use header::{COUNT, HEIGHT};
 use model::{Answer, Picked, SearchBound};
-use navigate::{Next, lower_leaf_edge, next_back_kv, next_back_leaf_edge, next_kv, next_leaf_edge};
+use navigate::{lower_leaf_edge, next_back_kv, next_back_leaf_edge, next_kv, next_leaf_edge};
 use node::{FREE, INTERNAL, NodeNo, Place, edge, key, len, state, val};
 use search::Handle;
 
@@ -54,11 +54,11 @@ fn refused(cursor: Cursor, answer: Answer) -> Moved
 }
 
 // The end that a step leads to, or the pair.
-fn arrive(a: &[u64], changes: u64, end: Stand, to: Next) -> Moved
+fn arrive(a: &[u64], changes: u64, end: Stand, to: Option<Handle>) -> Moved
     requires { In a.now (λ s. Stepping s to) }
     ensures { (s : State) → Holds a.now s → (p : Spot) → InTree s.whole p → to ≡ stepped p → moved_of result ≡ arrived changes (stand_of end) p }
 {
-    let Next::Kv(kv) = to else {
+    let Some(kv) = to else {
         return Moved {
             cursor: Cursor {
                 changes,

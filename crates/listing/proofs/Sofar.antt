@@ -26,7 +26,7 @@ use Rattle.model.proofs.Walks.{Ahead, next_kv_lem, next_edge_lem, start_edge, st
 use Rattle.slices.proofs.Laws.{set_two}
 use Rattle.search.specs.declared.Handle.{Handle}
 use Rattle.search.specs.Results.{leaf_edge}
-use Rattle.navigate.specs.declared.Next.TheVariants.{Kv, End}
+use Rattle.std.proofs.Common.{Some, None}
 use Rattle.navigate.specs.Places.{EdgeAt, KvAt, stepped}
 use Rattle.navigate.proofs.Pairs.{Placed, InTree, step_placed}
 use Rattle.listing.specs.Written.{Lays}
@@ -83,17 +83,17 @@ ahead_in : (w : Whole) (ps : List Pair) (p : Spot) → Ahead w ps p → InTree w
 ahead_in w ps (gap c) y = tt
 ahead_in w ps (at c n l e x r) y = y.0
 
-pub sight : {s : State} {e : Handle} (y : EdgeAt s e) (d : Handle) → Kv d ≡ stepped (next_kv y.way) → Sight y d
+pub sight : {s : State} {e : Handle} (y : EdgeAt s e) (d : Handle) → Some d ≡ stepped (next_kv y.way) → Sight y d
 sight {s} y d q =
     let a : Ahead s.whole (after y.way) (next_kv y.way) = subst (λ (w : Whole). Ahead w (after y.way) (next_kv y.way)) y.whole (next_kv_lem y.way) in
     let p : Placed s (next_kv y.way) d = step_placed (next_kv y.way) d q (ahead_in s.whole (after y.way) (next_kv y.way) a) in
     let k = p.kv in
     record { kv = k; ahead = (subst (Ahead s.whole (after y.way)) p.same a).1 ∙ ap (λ (l : List Pair). k.item.pair ∷ l) (sym (next_edge_lem k.ctx k.no k.left k.hole k.item k.right).0) }
 
-pub no_sight : {s : State} {e : Handle} (y : EdgeAt s e) → End ≡ stepped (next_kv y.way) → after y.way ≡ []
+pub no_sight : {s : State} {e : Handle} (y : EdgeAt s e) → None ≡ stepped (next_kv y.way) → after y.way ≡ []
 no_sight y q = go (next_kv y.way) (next_kv_lem y.way) q
   where
-    go : (p : Spot) → Ahead (plug y.way tt) (after y.way) p → End ≡ stepped p → after y.way ≡ []
+    go : (p : Spot) → Ahead (plug y.way tt) (after y.way) p → None ≡ stepped p → after y.way ≡ []
     go (gap c) a e = a
     go (at c n l x z r) a e = let f : ◌≡◌ {A = ℕ} 0 1 = cc in absurd (omega arith)
 

@@ -12,7 +12,7 @@ ghost use Rattle.listing.specs.Written.{Written};
 
 use checker::well_formed;
 use model::{Answer, Listed, Range, SearchBound};
-use navigate::{Next, lower_leaf_edge, next_kv, next_leaf_edge};
+use navigate::{lower_leaf_edge, next_kv, next_leaf_edge};
 use node::{key, val};
 use search::Handle;
 
@@ -61,7 +61,7 @@ fn write_from(a: &[u64], from: Handle, end: SearchBound, out: &mut [u64]) -> Lis
     let mut edge = from;
     let mut wrote = 0;
     loop {
-        let Next::Kv(kv) = next_kv(a, edge) else {
+        let Some(kv) = next_kv(a, edge) else {
             return Listed {
                 answer: Answer::Done,
                 wrote,

@@ -12,7 +12,7 @@ ghost use Rattle.navigate.specs.Places.{In, EdgeAt};
 ghost use Rattle.merging.specs.Heads.{HeadOf, HeadIn, MergedOf, Fits};
 
 use model::SearchBound;
-use navigate::{Next, lower_leaf_edge, next_kv, next_leaf_edge};
+use navigate::{lower_leaf_edge, next_kv, next_leaf_edge};
 use node::{Kv, key, val};
 use search::Handle;
 
@@ -28,7 +28,7 @@ pub fn peek(a: &[u64], from: Handle) -> Head
     requires { In a.now (λ s. EdgeAt s from) }
     ensures { (s : State) → Holds a.now s → (y : EdgeAt s from) → HeadOf s (after y.way) result }
 {
-    let Next::Kv(kv) = next_kv(a, from) else {
+    let Some(kv) = next_kv(a, from) else {
         return Head::End;
     };
     let node = kv.node;

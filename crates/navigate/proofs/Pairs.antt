@@ -1,6 +1,7 @@
 -- A pair's place: the words that hold the pair, and the place where a search or a step ends.
 -- Assumes nothing.
 use Prim.Native.Nat.{ℕ, suc, ◌+◌, ◌≤◌, ◌<◌}
+use Rattle.std.proofs.Common.{Some}
 use native.Mathlib.Omega.{arith}
 use mathlib.Core.Path.{◌≡◌, refl, sym, ap, ◌∙◌, subst}
 use mathlib.Core.List.{List, ◌∷◌, map}
@@ -18,7 +19,6 @@ use Rattle.model.proofs.Standing.{At, stands, short_at, key_at, value_at, fill_a
 use Rattle.search.specs.declared.Handle.{Handle}
 use Rattle.search.specs.declared.SearchResult.TheVariants.{Found}
 use Rattle.search.specs.Results.{handle, spotted}
-use Rattle.navigate.specs.declared.Next.TheVariants.{Kv}
 pub use Rattle.navigate.specs.Places.{InTree}
 use Rattle.navigate.specs.Places.{KvAt, stepped}
 
@@ -62,7 +62,7 @@ pub found_placed : {s : State} (p : Spot) (d : Handle) → Found d ≡ spotted p
 found_placed (gap c) d e w = let z : ◌≡◌ {A = ℕ} 0 1 = cc in absurd (omega arith)
 found_placed (at c n l e x r) d q w = placed c n l e x r w d cc
 
-pub step_placed : {s : State} (p : Spot) (d : Handle) → Kv d ≡ stepped p → InTree s.whole p → Placed s p d
+pub step_placed : {s : State} (p : Spot) (d : Handle) → Some d ≡ stepped p → InTree s.whole p → Placed s p d
 step_placed (gap c) d e w = let z : ◌≡◌ {A = ℕ} 0 1 = cc in absurd (omega arith)
 step_placed (at c n l e x r) d q w = placed c n l e x r w d cc
 

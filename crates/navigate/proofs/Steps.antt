@@ -27,7 +27,7 @@ use Rattle.node.specs.Reading.{ascent_of}
 use Rattle.search.specs.declared.Handle.{Handle}
 use Rattle.search.specs.Results.{handle, leaf_edge}
 use Rattle.search.proofs.Descents.{leaf_at}
-use Rattle.navigate.specs.declared.Next.TheVariants.{Kv, End}
+use Rattle.std.proofs.Common.{Some, None}
 use Rattle.navigate.specs.Places.{EdgeAt, KvAt, stepped}
 use Rattle.navigate.proofs.Pairs.{node, kv_at_node, kv_length}
 
@@ -142,8 +142,8 @@ pub climb_top : (Q : (h : ℕ) → Ctx h → Tree h → Type 0) {w : List ℕ} {
 climb_top Q {w} {s} o y = let e : header w height_word ≡ pred s.whole.height = ap (λ (x : List ℕ). header x height_word) o.words ∙ words_header o.sound height_word (omega arith) in omega (arith, climb_high Q o y)
 
 -- a pair of the node
-kv_at : (Q : (h : ℕ) → Ctx h → Tree h → Type 0) {w : List ℕ} {s : State} (o : Holds w s) {n h i : ℕ} (y : Climb Q s n h i) {j : ℕ} (k : ℕ) → j ≡ k → Kv (handle y.frame.no h j) ≡ Kv (handle n h k)
-kv_at Q o {n} {h} y {j} k e = ap (λ (m : ℕ). Kv (handle m h j)) y.node_is ∙ ap (λ (j : ℕ). Kv (handle n h j)) e
+kv_at : (Q : (h : ℕ) → Ctx h → Tree h → Type 0) {w : List ℕ} {s : State} (o : Holds w s) {n h i : ℕ} (y : Climb Q s n h i) {j : ℕ} (k : ℕ) → j ≡ k → Some (handle y.frame.no h j) ≡ Some (handle n h k)
+kv_at Q o {n} {h} y {j} k e = ap (λ (m : ℕ). Some (handle m h j)) y.node_is ∙ ap (λ (j : ℕ). Some (handle n h j)) e
 
 -- ---- to the right
 
@@ -152,10 +152,10 @@ module _ (z : Spot) (d : Ctx zero) where
   Nexts h c t = z ≡ right_of (gap d) c t
 
   module _ {w : List ℕ} {s : State} (o : Holds w s) (n h i : ℕ) (y : Climb Nexts s n h i) where
-    pub next_here : i < word_at w n length_word → Kv (handle n h i) ≡ stepped z
+    pub next_here : i < word_at w n length_word → Some (handle n h i) ≡ stepped z
     next_here l = go y.frame.right refl
       where
-        go : (q : List (Item (Tree h))) → y.frame.right ≡ q → Kv (handle n h i) ≡ stepped z
+        go : (q : List (Item (Tree h))) → y.frame.right ≡ q → Some (handle n h i) ≡ stepped z
         go [] e = absurd (omega (arith, climb_length Nexts o y, ap length e))
         go (x ∷ r) e = sym (ap stepped (y.holds ∙ ap (λ (r : List (Item (Tree h))). right_in y.ctx y.frame.no y.frame.left y.tree r (right_of (gap d) y.ctx (here Nexts o y))) e) ∙ kv_at Nexts o y i y.at_is)
 
@@ -166,7 +166,7 @@ module _ (z : Spot) (d : Ctx zero) where
         go [] e = y.holds ∙ ap (λ (r : List (Item (Tree h))). right_in y.ctx y.frame.no y.frame.left y.tree r (right_of (gap d) y.ctx (here Nexts o y))) e
         go (x ∷ r) e = absurd (omega (arith, climb_length Nexts o y, ap length e))
 
-    pub next_ended : (t : Tree (suc h)) × Nexts (suc h) top t → End ≡ stepped z
+    pub next_ended : (t : Tree (suc h)) × Nexts (suc h) top t → None ≡ stepped z
     next_ended e = sym (ap stepped e.1)
 
 -- ---- to the left
@@ -179,10 +179,10 @@ module _ (z : Spot) (d : Ctx zero) where
     from_left : (q : List (Item (Tree h))) → y.frame.left ≡ q → z ≡ left_in y.ctx y.frame.no q y.tree y.frame.right (left_of (gap d) y.ctx (here Backs o y))
     from_left q e = y.holds ∙ ap (λ (l : List (Item (Tree h))). left_in y.ctx y.frame.no l y.tree y.frame.right (left_of (gap d) y.ctx (here Backs o y))) e
 
-    pub back_here : 1 ≤ i → Kv (handle n h (i - 1)) ≡ stepped z
+    pub back_here : 1 ≤ i → Some (handle n h (i - 1)) ≡ stepped z
     back_here l = go y.frame.left refl
       where
-        go : (q : List (Item (Tree h))) → y.frame.left ≡ q → Kv (handle n h (i - 1)) ≡ stepped z
+        go : (q : List (Item (Tree h))) → y.frame.left ≡ q → Some (handle n h (i - 1)) ≡ stepped z
         go [] e = absurd (omega (arith, y.at_is, ap length e))
         go (x ∷ q) e = sym (ap stepped (from_left (x ∷ q) e) ∙ kv_at Backs o y (i - 1) (omega (arith, y.at_is, ap length e)))
 
@@ -193,7 +193,7 @@ module _ (z : Spot) (d : Ctx zero) where
         go [] e = from_left [] e
         go (x ∷ q) e = absurd (omega (arith, y.at_is, ap length e))
 
-    pub back_ended : (t : Tree (suc h)) × Backs (suc h) top t → End ≡ stepped z
+    pub back_ended : (t : Tree (suc h)) × Backs (suc h) top t → None ≡ stepped z
     back_ended e = sym (ap stepped e.1)
 
 -- ---- down from beside a pair

@@ -1,14 +1,12 @@
 -- Places of the code as places in the tree of a state.
 -- Assumes nothing.
-use Rattle.std.specs.Prelude.{ℕ, zero, suc, ◌≡◌, List, ◌∷◌, length}
+use Rattle.std.specs.Prelude.{ℕ, zero, suc, ◌≡◌, List, ◌∷◌, length, Option, Some, None}
 use Rattle.model.specs.Tree.{Item, Tree, Ctx, Whole, plug, fill}
 use Rattle.model.specs.Search.{Spot, at, gap}
 use Rattle.model.specs.State.{State}
 use Rattle.model.specs.Promise.{Holds}
 use Rattle.search.specs.declared.Handle.{Handle}
 use Rattle.search.specs.Results.{handle, leaf_edge}
-use Rattle.navigate.specs.declared.Next.{Next}
-use Rattle.navigate.specs.declared.Next.TheVariants.{Kv, End}
 
 -- the words hold a sound state of which P holds
 pub record In (w : List ℕ) (P : State → Type 0) : Type 0 where
@@ -35,9 +33,9 @@ pub record KvAt (s : State) (d : Handle) : Type 0 where
   pub at_is : d.at.0 ≡ length left
 
 -- the pair of a spot, or the end
-abbrev pub stepped : Spot → Next
-stepped (at {h = h} c n l e x r) = Kv (handle n h (length l))
-stepped (gap c) = End
+abbrev pub stepped : Spot → Option Handle
+stepped (at {h = h} c n l e x r) = Some (handle n h (length l))
+stepped (gap c) = None
 
 -- the spot, if it is a pair, is one of the tree's
 abbrev pub InTree : Whole → Spot → Type 0

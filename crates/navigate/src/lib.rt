@@ -16,29 +16,21 @@ use model::SearchBound;
 use node::{Ascent, NodeNo, Place, ascend, edge, keys, len};
 use search::{Handle, find_lower_bound_index};
 
-// The pair beside an edge, or the end.
-#[derive(Clone, Copy)]
-pub enum Next {
-    Kv(Handle),
-    End,
-}
-
 // The pair right of a leaf edge, in its leaf or above.
-pub fn next_kv(a: &[u64], from: Handle) -> Next
+pub fn next_kv(a: &[u64], from: Handle) -> Option<Handle>
     requires { In a.now (λ s. EdgeAt s from) }
     ensures { (s : State) → Holds a.now s → (y : EdgeAt s from) → result ≡ stepped (next_kv y.way) }
 {
-    let top = header::height(a);
     let mut node = from.node;
     let mut height = from.height;
     let mut at = from.at;
     loop {
         let n = len(a, node);
         if at.0 < n {
-            return Next::Kv(Handle { node, height, at });
+            return Some(Handle { node, height, at });
         }
         let Ascent::Edge(p, i) = ascend(a, node) else {
-            return Next::End;
+            return None;
         };
         node = p;
         at = i;
@@ -47,25 +39,24 @@ pub fn next_kv(a: &[u64], from: Handle) -> Next
 }
 
 // The pair left of a leaf edge, in its leaf or above.
-pub fn next_back_kv(a: &[u64], from: Handle) -> Next
+pub fn next_back_kv(a: &[u64], from: Handle) -> Option<Handle>
     requires { In a.now (λ s. EdgeAt s from) }
     ensures { (s : State) → Holds a.now s → (y : EdgeAt s from) → result ≡ stepped (back_kv y.way) }
 {
-    let top = header::height(a);
     let mut node = from.node;
     let mut height = from.height;
     let mut at = from.at;
     loop {
         let i = at.0;
         if i > 0 {
-            return Next::Kv(Handle {
+            return Some(Handle {
                 node,
                 height,
                 at: Place(i - 1),
             });
         }
         let Ascent::Edge(p, j) = ascend(a, node) else {
-            return Next::End;
+            return None;
         };
         node = p;
         at = j;

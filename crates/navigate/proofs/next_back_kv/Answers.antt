@@ -7,14 +7,10 @@ use Rattle.model.specs.State.{State}
 use Rattle.model.specs.Promise.{Holds}
 use Rattle.model.proofs.Bounds.{low}
 use Rattle.model.proofs.Backward.{backward}
-use Rattle.header.proofs.Headed.{held}
 use Rattle.navigate.specs.Places.{EdgeAt}
 use Rattle.navigate.proofs.Steps.{Climb, climb_at, climb_start, climb_top, climb_root, climb_on, Backs, back_here, back_above, back_ended}
 use Rattle.navigate.proofs.next_back_kv.Goals as goal
 use Rattle.navigate.proofs.next_back_kv.Goals.{In-Edge}
-
-pub height-top-requires : goal.height-top-requires
-height-top-requires c = held c.requires.holds
 
 pub loop-node-init : goal.loop-node-init
 loop-node-init c = let x = c.args in λ s o y. climb_start (Backs (back_kv y.way) y.way) o.sound x.from y refl
@@ -49,7 +45,7 @@ pub overflow_add-height : goal.overflow_add-height
 overflow_add-height c = let f = c.requires in omega (arith, high c, low (backward _ _ f.holds))
 
 pub loop-node-smaller : goal.loop-node-smaller
-loop-node-smaller c = omega (arith, high c, c.height-top.ensures)
+loop-node-smaller c = omega (arith, high c)
 
 pub loop-node-preserved : goal.loop-node-preserved
 loop-node-preserved c = on c

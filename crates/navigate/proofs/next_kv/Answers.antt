@@ -7,14 +7,10 @@ use Rattle.model.specs.State.{State}
 use Rattle.model.specs.Promise.{Holds}
 use Rattle.model.proofs.Bounds.{low}
 use Rattle.model.proofs.Backward.{backward}
-use Rattle.header.proofs.Headed.{held}
 use Rattle.navigate.specs.Places.{EdgeAt}
 use Rattle.navigate.proofs.Steps.{Climb, climb_at, climb_start, climb_top, climb_root, climb_on, Nexts, next_here, next_above, next_ended}
 use Rattle.navigate.proofs.next_kv.Goals as goal
 use Rattle.navigate.proofs.next_kv.Goals.{In-Edge}
-
-pub height-top-requires : goal.height-top-requires
-height-top-requires c = held c.requires.holds
 
 pub loop-at-init : goal.loop-at-init
 loop-at-init c = let x = c.args in λ s o y. climb_start (Nexts (next_kv y.way) y.way) o.sound x.from y refl
@@ -51,7 +47,7 @@ pub overflow_add-height : goal.overflow_add-height
 overflow_add-height c = let f = c.requires in omega (arith, high c, low (backward _ _ f.holds))
 
 pub loop-at-smaller : goal.loop-at-smaller
-loop-at-smaller c = omega (arith, high c, c.height-top.ensures)
+loop-at-smaller c = omega (arith, high c)
 
 pub loop-at-preserved : goal.loop-at-preserved
 loop-at-preserved c = on c
