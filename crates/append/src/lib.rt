@@ -27,9 +27,7 @@ use columns::{insert_word, set_len};
 use counting::count_node;
 use header::{HEIGHT, MARK, PAIRS, ROOT, SEEN};
 use internal::{new_internal, push_internal_level};
-use node::{
-    Ascent, CAPACITY, EDGES, KEYS, Kv, LEAF, MIN_LEN, NodeNo, Place, VALS, ascend, edge, len,
-};
+use node::{CAPACITY, EDGES, KEYS, Kv, LEAF, MIN_LEN, NodeNo, Place, VALS, ascend, edge, len};
 use store::{correct_childrens_parent_links, take_node};
 
 // An empty right side: its top, and its leaf.
@@ -70,7 +68,7 @@ fn open_node(a: &mut [u64], leaf: NodeNo) -> Opening
     let mut node = leaf;
     let mut levels = 1;
     loop {
-        let Ascent::Edge(parent, _) = ascend(a, node) else {
+        let Some((parent, _)) = ascend(a, node) else {
             let root = push_internal_level(a);
             return Opening { node: root, levels };
         };

@@ -7,13 +7,14 @@ use mathlib.Core.Bool.{Bool, true, false}
 use mathlib.Core.List.{List, [], ◌∷◌}
 use lib.ListN.{length}
 use borrow.Author.Tests.{le-leb, lt-leb}
+use Rattle.std.specs.Prelude.{Some, None}
 use Rattle.model.specs.Layout.{most, header, height_word, largest_count, word_at, length_word, parent_word, place_word}
 use Rattle.model.specs.Tree.{Pair, Tree, Frame, Ctx, top, under, plug, fill}
 use Rattle.model.specs.Insert.{is_full}
 use Rattle.model.proofs.Plug.{length_fill}
+use Rattle.node.proofs.Reading.{same_node}
 use Rattle.node.specs.declared.NodeNo.{NodeNo}
 use Rattle.node.specs.declared.Place.{Place}
-use Rattle.node.specs.declared.Ascent.TheVariants.{Edge, Root}
 use Rattle.node.specs.Reading.{Within, Has, ascent_of}
 use Rattle.internal.specs.Inner.{PushReady, Pushable, push_head, push_nodes}
 use Rattle.standing.specs.Standing.{Aside}
@@ -65,14 +66,14 @@ module _ {w : List ℕ} {g : Rest} {node levels : ℕ} {p : Pair} {t : Loading} 
     above_filling : Filling (under frame over)
     above_same : climb (under frame over) k.tree p k.next ≡ t
 
-  above : (q : NodeNo) (i : Place) → ascent_of (word_at w node parent_word) (word_at w node place_word) ≡ Edge q i → Above q.0
+  above : (q : NodeNo) (i : Place) → ascent_of (word_at w node parent_word) (word_at w node place_word) ≡ Some (q, i) → Above q.0
   above q i e = go k.way k.held k.filling k.same (sym hung ∙ e)
     where
-      go : (c : Ctx (suc k.height)) → HoleBy Uncounted w g c k.tree (free_from g k.next) → Filling c → climb c k.tree p k.next ≡ t → hangs c ≡ Edge q i → Above q.0
+      go : (c : Ctx (suc k.height)) → HoleBy Uncounted w g c k.tree (free_from g k.next) → Filling c → climb c k.tree p k.next ≡ t → hangs c ≡ Some (q, i) → Above q.0
       go top H fc s e = let z : ◌≡◌ {A = ℕ} 0 1 = cc in absurd (omega arith)
-      go (under f c) H fc s e = let eq : f.no ≡ q.0 = cc in record { over = c; frame = f; above_held = H; above_is = eq; above_filling = fc; above_same = s }
+      go (under f c) H fc s e = let eq : f.no ≡ q.0 = same_node e in record { over = c; frame = f; above_held = H; above_is = eq; above_filling = fc; above_same = s }
 
-  module _ (q : NodeNo) (i : Place) (e : ascent_of (word_at w node parent_word) (word_at w node place_word) ≡ Edge q i) where
+  module _ (q : NodeNo) (i : Place) (e : ascent_of (word_at w node parent_word) (word_at w node place_word) ≡ Some (q, i)) where
     a : Above q.0
     a = above q i e
 
@@ -165,7 +166,7 @@ module _ {w : List ℕ} {g : Rest} {h : ℕ} (x : Tree (suc h)) (n : ℕ) (H : H
         same = refl;
       }
 
-module _ {w : List ℕ} {g : Rest} {node levels : ℕ} {p : Pair} {t : Loading} (k : Rising w g node levels p t) (e : ascent_of (word_at w node parent_word) (word_at w node place_word) ≡ Root) where
+module _ {w : List ℕ} {g : Rest} {node levels : ℕ} {p : Pair} {t : Loading} (k : Rising w g node levels p t) (e : ascent_of (word_at w node parent_word) (word_at w node place_word) ≡ None) where
   -- what is asked for it, and what is left
   pub record Rooting : Type 0 where
     pub asks : Has w (λ hd ns. Pushable hd ns)
@@ -174,7 +175,7 @@ module _ {w : List ℕ} {g : Rest} {node levels : ℕ} {p : Pair} {t : Loading} 
   pub rooting : Rooting
   rooting = go k.way k.held k.same (sym (hung k) ∙ e)
     where
-      go : (c : Ctx (suc k.height)) → HoleBy Uncounted w g c k.tree (free_from g k.next) → climb c k.tree p k.next ≡ t → hangs c ≡ Root → Rooting
+      go : (c : Ctx (suc k.height)) → HoleBy Uncounted w g c k.tree (free_from g k.next) → climb c k.tree p k.next ≡ t → hangs c ≡ None → Rooting
       go (under f c) H s e = let z : ◌≡◌ {A = ℕ} 0 1 = cc in absurd (omega arith)
       go top H s e =
           let r : k.next + 1 + suc k.height ≤ g.size = subst (λ (l : Loading). l.next ≤ g.size) (sym s) k.room in

@@ -2,11 +2,12 @@
 // It only reads, ends on any words, and meets at most as many nodes as there are.
 #![tactic(auto)]
 
-ghost use Rattle.std.specs.Prelude.{◌≡◌, ◌<◌, ◌≤◌, length};
+ghost use Rattle.std.specs.Prelude.{◌≡◌, ◌<◌, ◌≤◌, length, OnOk, OnErr, IfErr};
 ghost use Rattle.model.specs.Layout.{SizedBy, Counts, least, most, total_word, word_at_by, word_at};
 ghost use Rattle.model.specs.WellFormed.{WellFormedBy, WellFormed, root_fewest};
 ghost use Rattle.model.specs.Public.{Promised};
 ghost use Rattle.model.specs.Public as promise;
+ghost use Rattle.model.specs.Answer.{said_done};
 ghost use Rattle.node.specs.Reading.{Within};
 ghost use Rattle.formats.specs.Within.{WithinBy};
 ghost use Rattle.inspect.specs.Tests.{Decides, reached};
@@ -16,7 +17,7 @@ ghost use Rattle.checker.specs.Whole.{HeadingBy, tree, start, FinishedBy};
 use formats::{base_of, edge_of, key_of, len_of, number};
 use header::{HIGHEST, LARGEST};
 use inspect::{Last, Visit, above, ascents, chain, lead, marked, own, own_leaf};
-use model::{Answer, Layout};
+use model::{Layout, Refused};
 use node::{HEADER, MIN_LEN, NONE, NodeNo, Place, total};
 
 // What is left to be met, nodes and pairs, and the last key. It falls, so that hostile words cost no more than the nodes there are.
@@ -356,12 +357,15 @@ pub fn well_formed(a: &[u64]) -> bool
     well_formed_by(Layout::Format2, a)
 }
 
-// Answers Done for a well-formed arena, BadArena for any other words.
-pub fn check(a: &[u64]) -> Answer
-    ensures { Promised promise.check a.now a.now tt result }
+// Refuses words that are no well-formed arena.
+pub fn check(a: &[u64]) -> Result<(), Refused>
+    ensures promise { Promised promise.check a.now a.now tt (said_done result) }
+    ensures ok { OnOk result (WellFormed a.now) }
+    ensures err { OnErr result (WellFormed a.now → ⊥) }
+    ensures bad { IfErr result (λ r. r ≡ Refused.BadArena) }
 {
     if !well_formed(a) {
-        return Answer::BadArena;
+        return Err(Refused::BadArena);
     }
-    Answer::Done
+    Ok(())
 }

@@ -7,6 +7,7 @@ use mathlib.Core.List.{List, [], ◌∷◌}
 use lib.Dec.{lit<}
 use lib.ListN.{length, get_or, length-set}
 use lib.Seq.{get_or-set_other}
+use Rattle.std.specs.Prelude.{Some, None}
 use Rattle.model.specs.Lists.{times}
 use Rattle.model.specs.Layout.{header, height_word, word_at, parent_word, place_word, NodeVal, nth, blank, Arena}
 use Rattle.model.specs.Tree.{Tree, Ctx, top, under, Whole, plug, fill}
@@ -14,9 +15,8 @@ use Rattle.model.specs.Parting.{trimmed}
 use Rattle.model.proofs.Lists.{one_same}
 use Rattle.node.specs.declared.NodeNo.{NodeNo}
 use Rattle.node.specs.declared.Place.{Place}
-use Rattle.node.specs.declared.Ascent.TheVariants.{Edge, Root}
 use Rattle.node.specs.Reading.{Within, ascent_of}
-use Rattle.node.proofs.Reading.{within, parent_is, place_is, ascent_root, ascent_edge}
+use Rattle.node.proofs.Reading.{same_node, same_place, within, parent_is, place_is, ascent_root, ascent_edge}
 use Rattle.store.proofs.Chain.{head_is}
 use Rattle.standing.specs.Totals.{due, TotalsBut, with_total}
 use Rattle.standing.proofs.Leads.{link_parent, link_place}
@@ -84,7 +84,7 @@ module _ {w hd : List ℕ} {g : Goal} {n at levels : ℕ} (S : Trims w hd g n at
       T : TotalsBut (m ∷ []) (shortened S.nodes m j)
       T = cut_told S.frame c S.tree g.free H told
 
-    pub cut_end : ascent_of (word_at w' n parent_word) (word_at w' n place_word) ≡ Root → Trimmed w' hd g
+    pub cut_end : ascent_of (word_at w' n parent_word) (word_at w' n place_word) ≡ None → Trimmed w' hd g
     cut_end e = go S.way S.stand S.apart S.going
       where
         go : (c : Ctx (suc S.height)) → Part S.nodes (under S.frame c) S.tree g.free → ((q : ℕ) → times q g.left + times q (spine (under S.frame c)) ≤ 1) → plug (trimmed (under S.frame c)) S.tree ≡ g.whole → Trimmed w' hd g
@@ -102,7 +102,7 @@ module _ {w hd : List ℕ} {g : Goal} {n at levels : ℕ} (S : Trims w hd g n at
             let y : ◌≡◌ {A = ℕ} 0 1 = cc in
             absurd (omega arith)
 
-    pub cut_on : (p : NodeNo) (i : Place) → ascent_of (word_at w' n parent_word) (word_at w' n place_word) ≡ Edge p i → (1 ≤ levels) × Trims w' hd g p.0 i.0 (levels - 1)
+    pub cut_on : (p : NodeNo) (i : Place) → ascent_of (word_at w' n parent_word) (word_at w' n place_word) ≡ Some (p, i) → (1 ≤ levels) × Trims w' hd g p.0 i.0 (levels - 1)
     cut_on p i e = go S.way S.stand S.apart S.going S.deep
       where
         go : (c : Ctx (suc S.height)) → Part S.nodes (under S.frame c) S.tree g.free → ((q : ℕ) → times q g.left + times q (spine (under S.frame c)) ≤ 1) → plug (trimmed (under S.frame c)) S.tree ≡ g.whole → above c ≤ levels
@@ -115,8 +115,8 @@ module _ {w hd : List ℕ} {g : Goal} {n at levels : ℕ} (S : Trims w hd g n at
         go (under f c) H a z d =
             let k = (hangs f c (cut (under f c) H) g.free (right_part (under f c) (cut (under f c) H) g.free (P (under f c) H))).link in
             let b = links_are ∙ ap₂ ascent_of (link_parent k) (link_place k) ∙ ascent_edge f.no (length f.left) (λ y. omega (arith, cut_inside f c (cut (under f c) H) g.free (P (under f c) H), (P (under f c) H).few)) in
-            let ep : f.no ≡ p.0 = cc in
-            let ei : length f.left ≡ i.0 = cc in (
+            let ep : f.no ≡ p.0 = same_node (sym b ∙ e) in
+            let ei : length f.left ≡ i.0 = same_place (sym b ∙ e) in (
               omega arith,
               record {
                 height = suc S.height;

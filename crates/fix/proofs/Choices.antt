@@ -9,9 +9,9 @@ use Rattle.model.specs.Layout.{most, word_at, length_word, parent_word, place_wo
 use Rattle.model.specs.Tree.{Item, Tree, Ctx, top, under}
 use Rattle.model.specs.Nodes.{Grown}
 use Rattle.model.proofs.Sizes.{FullCtx, len_some}
+use Rattle.node.proofs.Reading.{same_node, same_place}
 use Rattle.node.specs.declared.NodeNo.{NodeNo}
 use Rattle.node.specs.declared.Place.{Place}
-use Rattle.node.specs.declared.Ascent.TheVariants as ascent
 use Rattle.node.specs.Reading.{Within, ascent_of}
 use Rattle.std.proofs.Common.{None, Some}
 use Rattle.node.specs.declared.LeftOrRight.TheVariants.{Left, Right}
@@ -30,22 +30,22 @@ module _ {w : List ℕ} {g : Rest} {node : ℕ} {t : Grown} (m : Mending w g nod
   hung : ascent_of (word_at w node parent_word) (word_at w node place_word) ≡ hangs m.way
   hung = rw m.node_is at (ascent_is m.way m.tree m.free m.held)
 
-  pub chose_root : ascent_of (word_at w node parent_word) (word_at w node place_word) ≡ ascent.Root → None ≡ chosen m.way m.tree
+  pub chose_root : ascent_of (word_at w node parent_word) (word_at w node place_word) ≡ None → None ≡ chosen m.way m.tree
   chose_root e = go m.way m.tree (sym hung ∙ e)
     where
-      go : {h : ℕ} (c : Ctx (suc h)) (t : Tree (suc h)) → hangs c ≡ ascent.Root → None ≡ chosen c t
+      go : {h : ℕ} (c : Ctx (suc h)) (t : Tree (suc h)) → hangs c ≡ None → None ≡ chosen c t
       go top t e = refl
       go (under f c) t e = let z : ◌≡◌ {A = ℕ} 0 1 = cc in absurd (omega arith)
 
-  module _ (p : NodeNo) (i : Place) (e : ascent_of (word_at w node parent_word) (word_at w node place_word) ≡ ascent.Edge p i) where
+  module _ (p : NodeNo) (i : Place) (e : ascent_of (word_at w node parent_word) (word_at w node place_word) ≡ Some (p, i)) where
     pub parent_known : Within w p.0 × (i.0 ≤ most)
     parent_known = go m.way m.tree m.free m.held (sym hung ∙ e)
       where
-        go : {h : ℕ} (c : Ctx (suc h)) (t : Tree (suc h)) (free : List ℕ) → HoleIn w g c t free → hangs c ≡ ascent.Edge p i → Within w p.0 × (i.0 ≤ most)
+        go : {h : ℕ} (c : Ctx (suc h)) (t : Tree (suc h)) (free : List ℕ) → HoleIn w g c t free → hangs c ≡ Some (p, i) → Within w p.0 × (i.0 ≤ most)
         go top t free H e = let z : ◌≡◌ {A = ℕ} 0 1 = cc in absurd (omega arith)
         go (under f c) t free H e =
-            let ep : f.no ≡ p.0 = cc in
-            let ei : length f.left ≡ i.0 = cc in
+            let ep : f.no ≡ p.0 = same_node e in
+            let ei : length f.left ≡ i.0 = same_place e in
             (rw ep at (parent_within f.no f.left f.right c t free H), rw ei at (place_most f.no f.left f.right c t free H))
 
     pub chose_left : 0 < i.0 → (a : NodeNo) → a.0 ≡ word_at w p.0 (edges_word + (i.0 - 1)) → (n : NodeNo) → n.0 ≡ node → Some (Left (record { parent = p; at = record { 0 = i.0 - 1 }; left = a; right = n })) ≡ chosen m.way m.tree
@@ -60,11 +60,11 @@ module _ {w : List ℕ} {g : Rest} {node : ℕ} {t : Grown} (m : Mending w g nod
             let v : n.0 ≡ t.no = en ∙ sym q in
             λ j. Some (Left (record { parent = record { 0 = ep j }; at = record { 0 = k j }; left = record { 0 = u j }; right = record { 0 = v j } }))
 
-        go : {h : ℕ} (c : Ctx (suc h)) (t : Tree (suc h)) (free : List ℕ) → HoleIn w g c t free → t.no ≡ node → hangs c ≡ ascent.Edge p i → Some (Left (record { parent = p; at = record { 0 = i.0 - 1 }; left = a; right = n })) ≡ chosen c t
+        go : {h : ℕ} (c : Ctx (suc h)) (t : Tree (suc h)) (free : List ℕ) → HoleIn w g c t free → t.no ≡ node → hangs c ≡ Some (p, i) → Some (Left (record { parent = p; at = record { 0 = i.0 - 1 }; left = a; right = n })) ≡ chosen c t
         go top t free H q e = let z : ◌≡◌ {A = ℕ} 0 1 = cc in absurd (omega arith)
         go (under f c) t free H q e =
-            let ep : p.0 ≡ f.no = cc in
-            let ei : i.0 ≡ length f.left = cc in
+            let ep : p.0 ≡ f.no = sym (same_node e) in
+            let ei : i.0 ≡ length f.left = sym (same_place e) in
             by f.no f.left f.right c t free H q ep ei
 
     pub chose_right : (0 < i.0 → ⊥) → (a : NodeNo) → a.0 ≡ word_at w p.0 (edges_word + 1) → (n : NodeNo) → n.0 ≡ node → Some (Right (record { parent = p; at = record { 0 = 0 }; left = n; right = a })) ≡ chosen m.way m.tree
@@ -79,9 +79,9 @@ module _ {w : List ℕ} {g : Rest} {node : ℕ} {t : Grown} (m : Mending w g nod
             let v : n.0 ≡ t.no = en ∙ sym q in
             λ j. Some (Right (record { parent = record { 0 = ep j }; at = record { 0 = 0 }; left = record { 0 = v j }; right = record { 0 = u j } }))
 
-        go : {h : ℕ} (c : Ctx (suc h)) (t : Tree (suc h)) (free : List ℕ) → HoleIn w g c t free → FullCtx c → t.no ≡ node → hangs c ≡ ascent.Edge p i → Some (Right (record { parent = p; at = record { 0 = 0 }; left = n; right = a })) ≡ chosen c t
+        go : {h : ℕ} (c : Ctx (suc h)) (t : Tree (suc h)) (free : List ℕ) → HoleIn w g c t free → FullCtx c → t.no ≡ node → hangs c ≡ Some (p, i) → Some (Right (record { parent = p; at = record { 0 = 0 }; left = n; right = a })) ≡ chosen c t
         go top t free H u q e = let z : ◌≡◌ {A = ℕ} 0 1 = cc in absurd (omega arith)
         go (under f c) t free H u q e =
-            let ep : p.0 ≡ f.no = cc in
-            let ei : i.0 ≡ length f.left = cc in
+            let ep : p.0 ≡ f.no = sym (same_node e) in
+            let ei : i.0 ≡ length f.left = sym (same_place e) in
             by f.no f.left f.right c t free H u q ep ei

@@ -6,6 +6,7 @@ use native.Mathlib.Omega.{arith}
 use mathlib.Core.Path.{◌≡◌, refl, ap, ◌∙◌}
 use mathlib.Core.List.{List, [], ◌∷◌, map}
 use lib.ListN.{length, get_or, length-map}
+use Rattle.std.specs.Prelude.{Option, Some, None}
 use Rattle.model.specs.Lists.{All, times}
 use Rattle.model.specs.Layout.{most, header_size, base, header, word_at, length_word, parent_word, place_word, edges_word, NodeVal, nth}
 use Rattle.model.specs.Tree.{Item, Tree, Ctx, top, under, plug, fill_first, fill_rest}
@@ -13,8 +14,8 @@ use Rattle.model.specs.Words.{root_no}
 use Rattle.model.specs.Remove.{pop, pop_by}
 use Rattle.model.proofs.Arena.{arena_length, arena_header}
 use Rattle.model.proofs.Lists.{all_once, all_map, times_self}
-use Rattle.node.specs.declared.Ascent.{Ascent}
-use Rattle.node.specs.declared.Ascent.TheVariants.{Edge, Root}
+use Rattle.node.specs.declared.NodeNo.{NodeNo}
+use Rattle.node.specs.declared.Place.{Place}
 use Rattle.node.specs.Reading.{Within, ascent_of}
 use Rattle.node.proofs.Reading.{within, len_is, parent_is, place_is, edge_is, ascent_root, ascent_edge}
 use Rattle.store.specs.Links.{link_of}
@@ -65,9 +66,9 @@ module _ {P : List NodeVal → Type 0} {w : List ℕ} {g : Rest} {h : ℕ} (c : 
 -- ---- the node in the hole
 
 -- where it hangs
-abbrev pub hangs : {h : ℕ} → Ctx h → Ascent
-hangs top = Root
-hangs (under f c) = Edge (record { 0 = f.no }) (record { 0 = length f.left })
+abbrev pub hangs : {h : ℕ} → Ctx h → Option (NodeNo × Place)
+hangs top = None
+hangs (under f c) = Some (record { 0 = f.no }, record { 0 = length f.left })
 
 module _ {P : List NodeVal → Type 0} {w : List ℕ} {g : Rest} {h : ℕ} (c : Ctx (suc h)) (t : Tree (suc h)) (free : List ℕ) (H : HoleBy P w g c t free) where
   node_in : t.no < length H.nodes
@@ -132,7 +133,7 @@ module _ {P : List NodeVal → Type 0} {w : List ℕ} {g : Rest} {h : ℕ} (n : 
   pub parent_edge : (i : ℕ) → i ≤ length l + length r → word_at w n (edges_word + i) ≡ get_or (fill_first Ls t.no ∷ map edge_in (fill_rest Ls t.no Rs)) i 0
   parent_edge i o = edge_is H.arena n parent_in i (omega (arith, edges_long)) ∙ ap (λ (es : List ℕ). get_or es i 0) edges_are
 
-  pub ascent_under : ascent_of (word_at w t.no parent_word) (word_at w t.no place_word) ≡ Edge (record { 0 = n }) (record { 0 = length l })
+  pub ascent_under : ascent_of (word_at w t.no parent_word) (word_at w t.no place_word) ≡ Some (record { 0 = n }, record { 0 = length l })
   ascent_under =
       let o = node_in (under (record { no = n; left = l; right = r }) c) t free H in
       rw (parent_is H.arena t.no o, place_is H.arena t.no o, link_parent hung, link_place hung) (ascent_edge n (length l) (λ e. omega (arith, parent_in, H.stand.few)))

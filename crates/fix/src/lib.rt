@@ -7,7 +7,7 @@ ghost use Rattle.standing.specs.Heads.{Rest};
 ghost use Rattle.fix.specs.Repairs.{side_of, both_of, Merges, MergeCall, Stealing, StealCall, Mending, Mends, chosen, Fixing, Ended};
 
 use balance::BalancingContext;
-use node::{Ascent, LeftOrRight, MIN_LEN, NodeNo, Place, ascend, edge, len};
+use node::{LeftOrRight, MIN_LEN, NodeNo, Place, ascend, edge, len};
 use totals::{set_right, settle};
 
 // The root was left without pairs.
@@ -19,9 +19,7 @@ pub fn choose_parent_kv(a: &[u64], node: NodeNo) -> Option<LeftOrRight<Balancing
     requires { Mends a.now node.0 }
     ensures { (g : Rest) (t : Grown) (m : Mending a.now g node.0 t) → result ≡ chosen m.way m.tree }
 {
-    let Ascent::Edge(parent, idx) = ascend(a, node) else {
-        return None;
-    };
+    let (parent, idx) = ascend(a, node)?;
     let i = idx.0;
     if i > 0 {
         let left = edge(a, parent, Place(i - 1));

@@ -7,6 +7,7 @@ use mathlib.Core.Path.{◌≡◌, refl, ap, ◌∙◌, sym, subst}
 use mathlib.Core.Bool.{true}
 use mathlib.Core.List.{List, [], ◌∷◌, map}
 use lib.ListN.{length, get_or, length-map}
+use Rattle.std.specs.Prelude.{Some, None}
 use Rattle.model.specs.Layout.{largest_height, header, height_word, word_at, parent_word, place_word, NodeVal, nth, Arena}
 use Rattle.model.specs.Tree.{Pair, Item, Tree, Frame, Ctx, top, under, Whole, plug, fill_first, fill_rest}
 use Rattle.model.specs.Nodes.{taken, untaken, Grown}
@@ -26,9 +27,8 @@ use Rattle.model.proofs.Plug.{length_fill}
 use Rattle.model.proofs.Climb.{halved, rise_full}
 use Rattle.node.specs.declared.NodeNo.{NodeNo}
 use Rattle.node.specs.declared.Place.{Place}
-use Rattle.node.specs.declared.Ascent.TheVariants.{Edge, Root}
 use Rattle.node.specs.Reading.{Within, Has, ascent_of}
-use Rattle.node.proofs.Reading.{within, parent_is, place_is, ascent_root, ascent_edge}
+use Rattle.node.proofs.Reading.{same_node, same_place, within, parent_is, place_is, ascent_root, ascent_edge}
 use Rattle.internal.specs.Inner.{PushReady, Pushable, push_head, push_nodes}
 use Rattle.search.specs.declared.Handle.{Handle}
 use Rattle.search.specs.Results.{leaf_edge}
@@ -137,13 +137,13 @@ module _ {w : List ℕ} {g : Rest} {h : ℕ} where
       let l : length f.left < length (nth H.nodes f.no).edges = rw es (simp length-map (omega (arith, n, length_fill f.no (numbered (suc h) f.left) x.no (numbered (suc h) f.right)))) in
       rw t at (H.stand.links f.no (length f.left) l)
 
-  ascent_above : (f : Frame (Tree (suc h))) (c : Ctx (suc (suc h))) (x y : Tree (suc h)) (free : List ℕ) (H : OpenIn w g (under f c) x y free) → ascent_of (word_at w x.no parent_word) (word_at w x.no place_word) ≡ Edge (record { 0 = f.no }) (record { 0 = length f.left })
+  ascent_above : (f : Frame (Tree (suc h))) (c : Ctx (suc (suc h))) (x y : Tree (suc h)) (free : List ℕ) (H : OpenIn w g (under f c) x y free) → ascent_of (word_at w x.no parent_word) (word_at w x.no place_word) ≡ Some (record { 0 = f.no }, record { 0 = length f.left })
   ascent_above f c x y free H =
       let k = (hangs f c x y free H).link in
       links_are (under f c) x y free H
       ∙ rw (link_parent k, link_place k) (ascent_edge f.no (length f.left) (λ e. omega (arith, node_in f c x y free H.stand, H.stand.few)))
 
-  ascent_top : (x y : Tree (suc h)) (free : List ℕ) → OpenIn w g (top {h = suc h}) x y free → ascent_of (word_at w x.no parent_word) (word_at w x.no place_word) ≡ Root
+  ascent_top : (x y : Tree (suc h)) (free : List ℕ) → OpenIn w g (top {h = suc h}) x y free → ascent_of (word_at w x.no parent_word) (word_at w x.no place_word) ≡ None
   ascent_top x y free H = links_are top x y free H ∙ ascent_root _ _ (link_parent H.stand.root)
 
 -- ---- the gap above
@@ -161,7 +161,7 @@ module _ {w : List ℕ} {g : Rest} (node levels r : ℕ) {p : Pair} {t : Grown} 
   hung : ascent_of (word_at w node parent_word) (word_at w node place_word) ≡ ascent_of (word_at w k.low.no parent_word) (word_at w k.low.no place_word)
   hung = ap (λ (n : ℕ). ascent_of (word_at w n parent_word) (word_at w n place_word)) (sym k.node_is)
 
-  pub above : (q : NodeNo) (i : Place) → ascent_of (word_at w node parent_word) (word_at w node place_word) ≡ Edge q i → Above w g q.0 i.0 r levels p t
+  pub above : (q : NodeNo) (i : Place) → ascent_of (word_at w node parent_word) (word_at w node place_word) ≡ Some (q, i) → Above w g q.0 i.0 r levels p t
   above q i e = go k.way k.held k.levels_is k.tall k.enough k.same
     where
       go : (c : Ctx (suc k.height)) → OpenIn w g c k.low k.high k.free → depth c ≡ levels → top_of c ≤ largest_height + 1 → needed c ≤ length k.free → rise c k.low p k.high k.free ≡ t → Above w g q.0 i.0 r levels p t
@@ -169,8 +169,8 @@ module _ {w : List ℕ} {g : Rest} (node levels r : ℕ) {p : Pair} {t : Grown} 
       go (under f c) H l u n s =
           let a = ascent_above f c k.low k.high k.free H in
           let h = hung in
-          let eq : f.no ≡ q.0 = cc in
-          let ei : length f.left ≡ i.0 = cc in
+          let eq : f.no ≡ q.0 = same_node (sym a ∙ sym h ∙ e) in
+          let ei : length f.left ≡ i.0 = same_place (sym a ∙ sym h ∙ e) in
           let el : depth c ≡ levels - 1 = omega arith in
           record { height = k.height; some = omega arith; next = going f c k.low k.high p k.free H u n eq ei k.right_is el s }
 
@@ -235,7 +235,7 @@ module _ {w : List ℕ} {g : Rest} {h : ℕ} (x y : Tree (suc h)) (p : Pair) (m 
   }
 
 module _ {w : List ℕ} {g : Rest} (node levels r : ℕ) {p : Pair} {t : Grown} (k : Climbing w g node levels p r t) where
-  pub crown : ascent_of (word_at w node parent_word) (word_at w node place_word) ≡ Root → Crown w g p r t
+  pub crown : ascent_of (word_at w node parent_word) (word_at w node place_word) ≡ None → Crown w g p r t
   crown e = go k.way k.held k.tall k.enough k.same
     where
       go : (c : Ctx (suc k.height)) → OpenIn w g c k.low k.high k.free → top_of c ≤ largest_height + 1 → needed c ≤ length k.free → rise c k.low p k.high k.free ≡ t → Crown w g p r t

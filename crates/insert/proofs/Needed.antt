@@ -7,6 +7,7 @@ use mathlib.Core.Bool.{true, false}
 use mathlib.Core.List.{List}
 use lib.ListN.{length}
 use borrow.Author.Tests.{le-leb, lt-leb}
+use Rattle.std.specs.Prelude.{Some, None}
 use Rattle.model.specs.Layout.{most, largest_height, header, height_word, word_at, length_word, parent_word, place_word}
 use Rattle.model.specs.Tree.{Tree, Frame, Ctx, top, under}
 use Rattle.model.specs.Insert.{is_full, needed}
@@ -16,7 +17,6 @@ use Rattle.model.proofs.Bounds.{low}
 use Rattle.model.proofs.Backward.{backward}
 use Rattle.node.specs.declared.NodeNo.{NodeNo}
 use Rattle.node.specs.declared.Place.{Place}
-use Rattle.node.specs.declared.Ascent.TheVariants.{Edge, Root}
 use Rattle.node.specs.Reading.{Within, ascent_of}
 use Rattle.search.specs.declared.Handle.{Handle}
 use Rattle.search.specs.Results.{leaf_edge}
@@ -71,8 +71,8 @@ module _ {w : List ℕ} {s : State} (o : Holds w s) where
           let z = rw (e, needed) at k.climb.holds in
           omega arith
 
-      pub count_root : ascent_of (word_at w n parent_word) (word_at w n place_word) ≡ Root → h + 2 ≡ total
+      pub count_root : ascent_of (word_at w n parent_word) (word_at w n place_word) ≡ None → h + 2 ≡ total
       count_root e = let z = (climb_root (Left total) o n h k.at k.climb passed e).1 in omega arith
 
-      pub count_on : (p : NodeNo) (j : Place) → ascent_of (word_at w n parent_word) (word_at w n place_word) ≡ Edge p j → Counting total s p.0 (h + 1)
+      pub count_on : (p : NodeNo) (j : Place) → ascent_of (word_at w n parent_word) (word_at w n place_word) ≡ Some (p, j) → Counting total s p.0 (h + 1)
       count_on p j e = record { at = j.0; climb = climb_on (Left total) o n h k.at k.climb passed p j e }

@@ -1,6 +1,6 @@
 -- What the parts of an insertion ask for and leave.
 -- Assumes nothing.
-use Rattle.std.specs.Prelude.{ℕ, suc, ◌+◌, ◌≤◌, ◌≡◌, List, length}
+use Rattle.std.specs.Prelude.{None, ℕ, suc, ◌+◌, ◌≤◌, ◌≡◌, List, length}
 use Rattle.model.specs.Layout.{word_at, parent_word, place_word}
 use Rattle.model.specs.Tree.{Pair}
 use Rattle.model.specs.Nodes.{Grown}
@@ -12,7 +12,6 @@ use Rattle.model.specs.declared.Answer.TheVariants.{Done, Value, Absent, NoRoom,
 use Rattle.node.specs.declared.NodeNo.{NodeNo}
 use Rattle.node.specs.declared.LeftOrRight.{LeftOrRight}
 use Rattle.node.specs.declared.LeftOrRight.TheVariants.{Left, Right}
-use Rattle.node.specs.declared.Ascent.TheVariants.{Root}
 use Rattle.node.specs.Reading.{pair_of, ascent_of}
 use Rattle.leaf.specs.declared.SplitResult.{SplitResult}
 use Rattle.search.specs.declared.Handle.{Handle}
@@ -57,7 +56,7 @@ pub record ClimbIn (w : List ℕ) (g : Rest) (r : SplitResult) (t : Grown) : Typ
   pub node : ℕ
   pub levels : ℕ
   pub climb : Climbing w g node levels (pair_of r.kv) r.right.0 t
-  pub hangs : ascent_of (word_at w node parent_word) (word_at w node place_word) ≡ Root
+  pub hangs : ascent_of (word_at w node parent_word) (word_at w node place_word) ≡ None
 
 pub record AtRoot (w : List ℕ) (r : SplitResult) : Type 0 where
   pub rest : Rest

@@ -17,7 +17,7 @@ ghost use Rattle.insert.specs.Inserts.{target_of, RawOutcome, Outcome, Unsettled
 use internal::push_internal_level;
 use leaf::{SplitResult, replace_kv};
 use model::Answer;
-use node::{Ascent, CAPACITY, Kv, LeftOrRight, NodeNo, Place, ascend, len, splitpoint};
+use node::{CAPACITY, Kv, LeftOrRight, NodeNo, Place, ascend, len, splitpoint};
 use search::{Handle, SearchResult, search_tree};
 use totals::{set_right, settle};
 
@@ -149,7 +149,7 @@ pub fn insert_recursing(a: &mut [u64], edge: Handle, kv: Kv)
         let Inserted::Split(split) = inserted else {
             return;
         };
-        let Ascent::Edge(parent, idx) = ascend(a, node) else {
+        let Some((parent, idx)) = ascend(a, node) else {
             split_root(a, split);
             return;
         };
@@ -173,7 +173,7 @@ pub fn nodes_needed(a: &[u64], edge: Handle) -> usize
         if len(a, node) < CAPACITY {
             return count;
         }
-        let Ascent::Edge(parent, _) = ascend(a, node) else {
+        let Some((parent, _)) = ascend(a, node) else {
             return count + 2;
         };
         node = parent;

@@ -18,7 +18,7 @@ use Rattle.model.specs.State.{State}
 use Rattle.model.specs.Promise.{Holds}
 use Rattle.model.proofs.Forks.{starts, lower_step, lower_inside}
 use Rattle.model.proofs.Standing.{At, below_at}
-use Rattle.search.specs.declared.BoundEdge.{BoundEdge}
+use Rattle.node.specs.declared.Place.{Place}
 use Rattle.search.specs.Results.{leaf_edge, edged}
 use Rattle.search.proofs.Descents.{keys_are, leaf_at}
 
@@ -27,7 +27,7 @@ pub record Lowering (z : Ctx zero) (s : State) (b : SearchBound) (n h : ℕ) : T
   pub place : At s n h
   pub same : z ≡ sink (starts b) (suc h) place.ctx place.tree
 
-module _ (z : Ctx zero) {w : List ℕ} {s : State} (o : Holds w s) (b : SearchBound) (n : ℕ) (ks : List ℕ) (q : ks ≡ part w (base n + keys_word) (word_at w n length_word)) (l : BoundEdge) (el : l ≡ edged (lower_edge b ks)) where
+module _ (z : Ctx zero) {w : List ℕ} {s : State} (o : Holds w s) (b : SearchBound) (n : ℕ) (ks : List ℕ) (q : ks ≡ part w (base n + keys_word) (word_at w n length_word)) (l : Place × SearchBound) (el : l ≡ edged (lower_edge b ks)) where
   -- the edge in the node of the tree
   abbrev low_at : {h : ℕ} → At s n h → range.BoundEdge
   low_at p = lower_edge b (keys_of p.tree.rest)
@@ -41,11 +41,11 @@ module _ (z : Ctx zero) {w : List ℕ} {s : State} (o : Holds w s) (b : SearchBo
   rises : {h : ℕ} (p : At s n h) → Rising (flat_of (plug p.ctx p.tree))
   rises p = subst (λ (x : Whole). Rising (flat_of x)) (sym p.whole) o.sound.rising
 
-  pub lowered : (h : ℕ) → Lowering z s b n h → h ≡ 0 → record { node = record { 0 = n }; height = 0; at = l.at } ≡ leaf_edge z
+  pub lowered : (h : ℕ) → Lowering z s b n h → h ≡ 0 → record { node = record { 0 = n }; height = 0; at = l.0 } ≡ leaf_edge z
   lowered zero y e = let p = y.place in rw (low_is p) (sym (ap leaf_edge (y.same ∙ lower_step b p.ctx p.tree (rises p)) ∙ leaf_at p (low_at p).at (low_inside p)))
   lowered (suc h) y e = absurd (omega arith)
 
-  pub lowering_on : (h : ℕ) → Lowering z s b n h → (h ≡ 0 → ⊥) → (m : ℕ) → m ≡ word_at w n (edges_word + l.at.0) → Lowering z s l.bound m (h - 1)
+  pub lowering_on : (h : ℕ) → Lowering z s b n h → (h ≡ 0 → ⊥) → (m : ℕ) → m ≡ word_at w n (edges_word + l.0.0) → Lowering z s l.1 m (h - 1)
   lowering_on zero y e m em = absurd (e refl)
   lowering_on (suc h) y e m em =
       let p = y.place in

@@ -8,6 +8,7 @@ use mathlib.Core.Bool.{Bool}
 use mathlib.Core.List.{List, [], ◌∷◌}
 use lib.ListN.{length}
 use borrow.Author.Tests.{ne_eqb}
+use Rattle.std.specs.Prelude.{Some, None}
 use Rattle.model.specs.Layout.{none, most, base, node_size, header, height_word, word_at, length_word, parent_word, place_word, edges_word}
 use Rattle.model.specs.Tree.{Item, Tree, Frame, Ctx, top, under, Whole, plug, fill}
 use Rattle.model.specs.Search.{Spot, gap, sink}
@@ -20,7 +21,7 @@ use Rattle.model.proofs.Plug.{length_fill}
 use Rattle.model.proofs.Forks.{StopsAt, down_at, hole_at, sink_open, open_filled}
 use Rattle.model.proofs.Held.{words_long, words_header}
 use Rattle.model.proofs.Standing.{parent_of, index_of, NodeAt, node_at, length_at, At, stands, below_at, short_at}
-use Rattle.node.specs.declared.Ascent.TheVariants.{Edge, Root}
+use Rattle.node.proofs.Reading.{same_node, same_place}
 use Rattle.node.specs.declared.NodeNo.{NodeNo}
 use Rattle.node.specs.declared.Place.{Place}
 use Rattle.node.specs.Reading.{ascent_of}
@@ -76,26 +77,26 @@ number_low {s} o a e = let l = a.within in let k : base s.size ≡ _ = sym (ap l
 
 module _ (Q : (h : ℕ) → Ctx h → Tree h → Type 0) {w : List ℕ} {s : State} (o : Holds w s) (n h i : ℕ) (y : Climb Q s n h i) (more : Q (suc h) y.ctx (here Q o y)) where
   -- the parent of what fills a hole below a node
-  parent_is : (f : Frame (Tree (suc h))) (c : Ctx (suc (suc h))) (t : Tree (suc h)) → plug (under f c) t ≡ s.whole → ascent_of f.no (length f.left) ≡ Edge (record { 0 = f.no }) (record { 0 = length f.left })
+  parent_is : (f : Frame (Tree (suc h))) (c : Ctx (suc (suc h))) (t : Tree (suc h)) → plug (under f c) t ≡ s.whole → ascent_of f.no (length f.left) ≡ Some (record { 0 = f.no }, record { 0 = length f.left })
   parent_is f c t e = rw (ne_eqb f.no none (number_low o (node_at o c (fill f.no f.left t f.right) e)), ascent_of)
 
   -- at the root there is no further edge
-  pub climb_root : ascent_of (word_at w n parent_word) (word_at w n place_word) ≡ Root → (t : Tree (suc h)) × Q (suc h) top t
+  pub climb_root : ascent_of (word_at w n parent_word) (word_at w n place_word) ≡ None → (t : Tree (suc h)) × Q (suc h) top t
   climb_root e = go y.ctx (here Q o y) y.whole more (sym (link_is Q o y) ∙ e)
     where
-      go : (c : Ctx (suc h)) (t : Tree (suc h)) → plug c t ≡ s.whole → Q (suc h) c t → ascent_of (parent_of c) (index_of c) ≡ Root → (t : Tree (suc h)) × Q (suc h) top t
+      go : (c : Ctx (suc h)) (t : Tree (suc h)) → plug c t ≡ s.whole → Q (suc h) c t → ascent_of (parent_of c) (index_of c) ≡ None → (t : Tree (suc h)) × Q (suc h) top t
       go top t q m r = (t, m)
       go (under f c) t q m r = let a = parent_is f c t q in let z : ◌≡◌ {A = ℕ} 0 1 = cc in absurd (omega arith)
 
   -- below it there is
-  pub climb_on : (p : NodeNo) (j : Place) → ascent_of (word_at w n parent_word) (word_at w n place_word) ≡ Edge p j → Climb Q s p.0 (h + 1) j.0
+  pub climb_on : (p : NodeNo) (j : Place) → ascent_of (word_at w n parent_word) (word_at w n place_word) ≡ Some (p, j) → Climb Q s p.0 (h + 1) j.0
   climb_on p j e = rw add-one (go y.ctx (here Q o y) y.whole more (sym (link_is Q o y) ∙ e))
     where
-      go : (c : Ctx (suc h)) (t : Tree (suc h)) → plug c t ≡ s.whole → Q (suc h) c t → ascent_of (parent_of c) (index_of c) ≡ Edge p j → Climb Q s p.0 (suc h) j.0
+      go : (c : Ctx (suc h)) (t : Tree (suc h)) → plug c t ≡ s.whole → Q (suc h) c t → ascent_of (parent_of c) (index_of c) ≡ Some (p, j) → Climb Q s p.0 (suc h) j.0
       go top t q m r = let z : ◌≡◌ {A = ℕ} 0 1 = cc in absurd (omega arith)
       go (under f c) t q m r =
           let a = parent_is f c t q in
-          record { frame = f; ctx = c; tree = t; whole = q; node_is = cc; at_is = cc; holds = m }
+          record { frame = f; ctx = c; tree = t; whole = q; node_is = same_node (sym a ∙ r); at_is = same_place (sym a ∙ r); holds = m }
 
 -- ---- down
 

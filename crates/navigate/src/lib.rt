@@ -13,7 +13,7 @@ ghost use Rattle.search.specs.Results.{leaf_edge};
 ghost use Rattle.navigate.specs.Places.{In, EdgeAt, KvAt, stepped};
 
 use model::SearchBound;
-use node::{Ascent, NodeNo, Place, ascend, edge, keys, len};
+use node::{NodeNo, Place, ascend, edge, keys, len};
 use search::{Handle, find_lower_bound_index};
 
 // The pair right of a leaf edge, in its leaf or above.
@@ -29,7 +29,7 @@ pub fn next_kv(a: &[u64], from: Handle) -> Option<Handle>
         if at.0 < n {
             return Some(Handle { node, height, at });
         }
-        let Ascent::Edge(p, i) = ascend(a, node) else {
+        let Some((p, i)) = ascend(a, node) else {
             return None;
         };
         node = p;
@@ -55,7 +55,7 @@ pub fn next_back_kv(a: &[u64], from: Handle) -> Option<Handle>
                 at: Place(i - 1),
             });
         }
-        let Ascent::Edge(p, j) = ascend(a, node) else {
+        let Some((p, j)) = ascend(a, node) else {
             return None;
         };
         node = p;
@@ -116,8 +116,7 @@ pub fn lower_leaf_edge(a: &[u64], start: SearchBound) -> Handle
     let mut bound = start;
     loop {
         let part = keys(a, node);
-        let low = find_lower_bound_index(part, bound);
-        let at = low.at;
+        let (at, below) = find_lower_bound_index(part, bound);
         if height == 0 {
             return Handle {
                 node,
@@ -125,7 +124,7 @@ pub fn lower_leaf_edge(a: &[u64], start: SearchBound) -> Handle
                 at,
             };
         }
-        bound = low.bound;
+        bound = below;
         node = edge(a, node, at);
         height -= 1;
     }

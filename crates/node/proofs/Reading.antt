@@ -7,10 +7,12 @@ use native.Mathlib.Omega.{arith}
 use borrow.Author.Tests.{le-leb, lt-leb, eq-eqb, ne_eqb}
 use lib.Dec.{lit<}
 use lib.ListN.{length, get_or, length-map}
+use Rattle.std.specs.Prelude.{Option, Some, None}
+use Rattle.node.specs.declared.NodeNo.{NodeNo}
+use Rattle.node.specs.declared.Place.{Place}
 use Rattle.model.specs.Lists.{part, pad}
 use Rattle.model.specs.Layout.{none, most, node_size, base, state_word, length_word, parent_word, place_word, keys_word, values_word, edges_word, total_word, word_at_by, word_at, key_of, val_of, frame, NodeVal, nth, Arena}
 use Rattle.model.specs.Insert.{left, right, splitpoint}
-use Rattle.node.specs.declared.Ascent.TheVariants.{Edge, Root}
 use Rattle.node.specs.Fields.{Fields, fields_of, field_words, key_column, val_column, edge_column}
 use Rattle.node.specs.Reading.{Within, ascent_of, pair_at}
 use Rattle.node.proofs.Pad.{pad_all}
@@ -87,11 +89,23 @@ module _ {w h : List ℕ} {ns : List NodeVal} (a : Arena w h ns) where
 
 -- ---- where a node hangs
 
-pub ascent_root : (p i : ℕ) → p ≡ none → ascent_of p i ≡ Root
+pub ascent_root : (p i : ℕ) → p ≡ none → ascent_of p i ≡ None
 ascent_root p i e = rw (eq-eqb p none e, ascent_of)
 
-pub ascent_edge : (p i : ℕ) → (p ≡ none → ⊥) → ascent_of p i ≡ Edge (record { 0 = p }) (record { 0 = i })
+pub ascent_edge : (p i : ℕ) → (p ≡ none → ⊥) → ascent_of p i ≡ Some (record { 0 = p }, record { 0 = i })
 ascent_edge p i d = rw (ne_eqb p none d, ascent_of)
+
+-- a parent's edge is one node and one place
+module _ {p q : NodeNo} {i j : Place} (e : ◌≡◌ {A = Option (NodeNo × Place)} (Some (p, i)) (Some (q, j))) where
+  abbrev parted : Option (NodeNo × Place) → NodeNo × Place
+  parted None = (q, j)
+  parted (Some x) = x
+
+  pub same_node : p.0 ≡ q.0
+  same_node = ap (λ (x : Option (NodeNo × Place)). (parted x).0.0) e
+
+  pub same_place : i.0 ≡ j.0
+  same_place = ap (λ (x : Option (NodeNo × Place)). (parted x).1.0) e
 
 -- ---- the four cases of the split point
 

@@ -1,12 +1,12 @@
 -- What is asked of an arena before a node of it is read or changed, and what the declared types stand for.
 -- Assumes nothing.
-use Rattle.std.specs.Prelude.{ℕ, ◌+◌, ◌≤◌, true, false, List, eqb, length, get_or}
+use Rattle.std.specs.Prelude.{Option, Some, None, ℕ, ◌+◌, ◌≤◌, true, false, List, eqb, length, get_or}
 use Rattle.model.specs.Tree.{Pair}
 use Rattle.model.specs.Layout.{none, base, node_size, NodeVal, Arena}
 use Rattle.model.specs.Insert.{Side, left, right, Split}
 use Rattle.node.specs.declared.Kv.{Kv}
-use Rattle.node.specs.declared.Ascent.{Ascent}
-use Rattle.node.specs.declared.Ascent.TheVariants.{Edge, Root}
+use Rattle.node.specs.declared.NodeNo.{NodeNo}
+use Rattle.node.specs.declared.Place.{Place}
 use Rattle.node.specs.declared.Rising.{Rising}
 use Rattle.node.specs.declared.LeftOrRight.{LeftOrRight}
 use Rattle.node.specs.declared.Place.{Place}
@@ -24,11 +24,11 @@ pub record Has (w : List ℕ) (P : List ℕ → List NodeVal → Type 0) : Type 
   pub holds : P head nodes
 
 -- where a node hangs whose words for parent and edge index are p and i
-abbrev pub ascent_of : ℕ → ℕ → Ascent
+abbrev pub ascent_of : ℕ → ℕ → Option (NodeNo × Place)
 ascent_of p i =
     elim (eqb p none) [
-      | true ↦ Root
-      | false ↦ Edge (record { 0 = p }) (record { 0 = i })
+      | true ↦ None
+      | false ↦ Some (record { 0 = p }, record { 0 = i })
     ]
 
 abbrev pub side_of : Side → ℕ → LeftOrRight Place

@@ -123,24 +123,17 @@ pub fn parent_idx(a: &[u64], n: NodeNo) -> u64
     word(a, n, PARENT_IDX)
 }
 
-// Where a node hangs: at an edge of its parent, or nowhere.
-#[derive(Clone, Copy)]
-pub enum Ascent {
-    Edge(NodeNo, Place),
-    Root,
-}
-
-// The parent's edge that leads to a node.
-pub fn ascend(a: &[u64], n: NodeNo) -> Ascent
+// The parent and its edge that lead to a node; the root has none.
+pub fn ascend(a: &[u64], n: NodeNo) -> Option<(NodeNo, Place)>
     requires { Within a.now n.0 }
     ensures { result ≡ ascent_of (word_at a.now n.0 parent_word) (word_at a.now n.0 place_word) }
 {
     let p = parent(a, n);
     if p == NONE {
-        return Ascent::Root;
+        return None;
     }
     let i = parent_idx(a, n);
-    Ascent::Edge(NodeNo(p as usize), Place(i as usize))
+    Some((NodeNo(p as usize), Place(i as usize)))
 }
 
 // The part of the arena with just a node's keys.

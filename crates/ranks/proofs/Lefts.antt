@@ -25,7 +25,7 @@ use Rattle.model.proofs.Bounds.{few}
 use Rattle.model.proofs.Backward.{header_is, backward}
 use Rattle.model.proofs.Forks.{starts, hole_at, open_length, open_fill, lower_step, lower_inside}
 use Rattle.model.proofs.Standing.{At, stands, below_at, short_at}
-use Rattle.search.specs.declared.BoundEdge.{BoundEdge}
+use Rattle.node.specs.declared.Place.{Place}
 use Rattle.search.specs.Results.{edged}
 use Rattle.search.proofs.Descents.{keys_are}
 use Rattle.ranks.specs.Picks.{EdgeIn, NodeIn, Here, Onward, PassingBy, Picking}
@@ -113,7 +113,7 @@ pub record Sinking (z : Ctx zero) (s : State) (b : SearchBound) (n h sum : ℕ) 
   pub same : z ≡ sink (starts b) (suc h) place.ctx place.tree
   pub sum_is : sum ≡ length (before place.ctx)
 
-module _ (z : Ctx zero) {w : List ℕ} {s : State} (o : Holds w s) (b : SearchBound) (n sum : ℕ) (ks : List ℕ) (q : ks ≡ part w (base n + keys_word) (word_at w n length_word)) (l : BoundEdge) (el : l ≡ edged (lower_edge b ks)) where
+module _ (z : Ctx zero) {w : List ℕ} {s : State} (o : Holds w s) (b : SearchBound) (n sum : ℕ) (ks : List ℕ) (q : ks ≡ part w (base n + keys_word) (word_at w n length_word)) (l : Place × SearchBound) (el : l ≡ edged (lower_edge b ks)) where
   abbrev low_at : {h : ℕ} → At s n h → range.BoundEdge
   low_at p = lower_edge b (keys_of p.tree.rest)
 
@@ -123,21 +123,21 @@ module _ (z : Ctx zero) {w : List ℕ} {s : State} (o : Holds w s) (b : SearchBo
   low_in : {h : ℕ} (p : At s n h) → (low_at p).at ≤ length p.tree.rest
   low_in p = simp length-map at (lower_inside b (keys_of p.tree.rest))
 
-  pub low_inside : {h : ℕ} (p : At s n h) → l.at.0 ≤ length p.tree.rest
+  pub low_inside : {h : ℕ} (p : At s n h) → l.0.0 ≤ length p.tree.rest
   low_inside p = rw (low_is p) (low_in p)
 
   rises : {h : ℕ} (p : At s n h) → Rising (flat_of (plug p.ctx p.tree))
   rises p = subst (λ (x : Whole). Rising (flat_of x)) (sym p.whole) o.sound.rising
 
-  pub sunk : (h : ℕ) → Sinking z s b n h sum → h ≡ 0 → sum + l.at.0 ≡ length (before z)
+  pub sunk : (h : ℕ) → Sinking z s b n h sum → h ≡ 0 → sum + l.0.0 ≡ length (before z)
   sunk zero y e =
       let p = y.place in
       let i = (low_at p).at in
       rw (low_is p) (sym (ap (λ (c : Ctx zero). length (before c)) (y.same ∙ lower_step b p.ctx p.tree (rises p)) ∙ (length-append (before p.ctx) (lefts (flat 0) (open_at i [] p.tree.first p.tree.rest).left) ∙ omega (arith, y.sum_is, left_is 0 p.tree i (low_in p), gaps_none i p.tree.first p.tree.rest))))
   sunk (suc h) y e = absurd (omega arith)
 
-  pub sinking_on : (h : ℕ) → Sinking z s b n h sum → (h ≡ 0 → ⊥) → (x : ℕ) → ((k : ℕ) (p : At s n (suc k)) → l.at.0 ≤ length p.tree.rest → x ≡ length (lefts (flat (suc k)) (open_at l.at.0 [] p.tree.first p.tree.rest).left))
-      → (m : ℕ) → m ≡ word_at w n (edges_word + l.at.0) → Sinking z s l.bound m (h - 1) (sum + x)
+  pub sinking_on : (h : ℕ) → Sinking z s b n h sum → (h ≡ 0 → ⊥) → (x : ℕ) → ((k : ℕ) (p : At s n (suc k)) → l.0.0 ≤ length p.tree.rest → x ≡ length (lefts (flat (suc k)) (open_at l.0.0 [] p.tree.first p.tree.rest).left))
+      → (m : ℕ) → m ≡ word_at w n (edges_word + l.0.0) → Sinking z s l.1 m (h - 1) (sum + x)
   sinking_on zero y e x ex m em = absurd (e refl)
   sinking_on (suc h) y e x ex m em =
       let p = y.place in
@@ -150,21 +150,21 @@ module _ (z : Ctx zero) {w : List ℕ} {s : State} (o : Holds w s) (b : SearchBo
         sum_is = sym (length-append (before p.ctx) (lefts (flat (suc h)) (open_at i [] p.tree.first p.tree.rest).left) ∙ omega (arith, y.sum_is, k));
       })
 
-  pub edge_ready : (h : ℕ) → Sinking z s b n h sum → (h ≡ 0 → ⊥) → EdgeIn s n l.at.0
+  pub edge_ready : (h : ℕ) → Sinking z s b n h sum → (h ≡ 0 → ⊥) → EdgeIn s n l.0.0
   edge_ready zero y e = absurd (e refl)
   edge_ready (suc h) y e = record { height = h; place = y.place; inside = low_inside y.place }
 
-  pub low_few : (h : ℕ) → Sinking z s b n h sum → (sum + l.at.0 ≤ most * largest_count + most) × (l.at.0 ≤ most)
+  pub low_few : (h : ℕ) → Sinking z s b n h sum → (sum + l.0.0 ≤ most * largest_count + most) × (l.0.0 ≤ most)
   low_few h y =
       let p = y.place in
       (omega (arith, y.sum_is, few_before o p, low_inside p, short_at (stands o p)), omega (arith, low_inside p, short_at (stands o p)))
 
-  pub sink_few : (h : ℕ) → Sinking z s b n h sum → (h ≡ 0 → ⊥) → (x : ℕ) → ((k : ℕ) (p : At s n (suc k)) → l.at.0 ≤ length p.tree.rest → x ≡ length (lefts (flat (suc k)) (open_at l.at.0 [] p.tree.first p.tree.rest).left))
+  pub sink_few : (h : ℕ) → Sinking z s b n h sum → (h ≡ 0 → ⊥) → (x : ℕ) → ((k : ℕ) (p : At s n (suc k)) → l.0.0 ≤ length p.tree.rest → x ≡ length (lefts (flat (suc k)) (open_at l.0.0 [] p.tree.first p.tree.rest).left))
       → sum + x ≤ most * largest_count + (most * largest_count + most)
   sink_few zero y e x ex = absurd (e refl)
   sink_few (suc h) y e x ex =
       let p = y.place in
-      omega (arith, y.sum_is, few_before o p, ex h p (low_inside p), left_is (suc h) p.tree l.at.0 (low_inside p), sum_few o p l.at.0, low_inside p, short_at (stands o p))
+      omega (arith, y.sum_is, few_before o p, ex h p (low_inside p), left_is (suc h) p.tree l.0.0 (low_inside p), sum_few o p l.0.0, low_inside p, short_at (stands o p))
 
 -- ---- a rank in a list of two parts
 

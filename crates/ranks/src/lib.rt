@@ -55,13 +55,12 @@ pub fn passed(a: &[u64], start: SearchBound) -> u64
     let mut sum: u64 = 0;
     loop {
         let part = keys(a, node);
-        let low = find_lower_bound_index(part, bound);
-        let at = low.at;
+        let (at, below) = find_lower_bound_index(part, bound);
         if height == 0 {
             return sum + at.0 as u64;
         }
         sum += left_of(a, node, at);
-        bound = low.bound;
+        bound = below;
         node = edge(a, node, at);
         height -= 1;
     }

@@ -11,7 +11,7 @@ use checker::well_formed;
 use format::format;
 use listing::list;
 use model::{Answer, Range, SearchBound};
-use search::{Bifurcation, search_tree_for_bifurcation};
+use search::{Handle, Parting, search_tree_for_bifurcation};
 use std::io;
 use telling::{mix_words, read_full, say, say_answer, say_last, say_words, word_at};
 
@@ -93,15 +93,15 @@ fn listing(rt: &impl Print, a: &[u64], range: Range, mix: u64) -> io::Result<u64
 }
 
 // Node, both edges and the children's bounds; or node and edge.
-fn say_fork(rt: &impl Print, f: Bifurcation) -> io::Result<()> {
+fn say_fork(rt: &impl Print, f: Result<Parting, Handle>) -> io::Result<()> {
     match f {
-        Bifurcation::Together(edge) => {
+        Err(edge) => {
             let node = edge.node;
             let at = edge.at;
             say(rt, node.0 as u64)?;
             say_last(rt, at.0 as u64)
         }
-        Bifurcation::Parted(p) => {
+        Ok(p) => {
             let node = p.node;
             let lower = p.lower;
             let upper = p.upper;

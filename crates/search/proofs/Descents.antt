@@ -20,8 +20,8 @@ use Rattle.model.proofs.Sizes.{Len, RootLen, FullWhole, of_full, fits_node, unpl
 use Rattle.model.proofs.Forks.{Ascends, node_ascends, down_at, open_length, seek_kv, seek_edge, lower_inside, low_at, high_at, bounds_at, fork_here, fork_below}
 use Rattle.model.proofs.Standing.{At, stands, below_at, length_at, short_at, keys_at}
 use Rattle.search.specs.declared.SearchResult.TheVariants.{Found, GoDown}
-use Rattle.search.specs.declared.BoundEdge.{BoundEdge}
-use Rattle.search.specs.declared.Bifurcation.TheVariants.{Parted, Together}
+use Rattle.std.proofs.Common.{Ok, Err}
+use Rattle.node.specs.declared.Place.{Place}
 use Rattle.search.specs.Results.{handle, leaf_edge, spotted, edged, forked}
 use Rattle.search.proofs.Indexes.{index_from}
 
@@ -102,7 +102,7 @@ module _ {w : List ℕ} {s : State} (o : Holds w s) (k n : ℕ) (ks : List ℕ) 
 
 -- ---- the fork of a range
 
-pub low_few : (b : SearchBound) (ks : List ℕ) (l : BoundEdge) → l ≡ edged (lower_edge b ks) → l.at.0 ≤ length ks
+pub low_few : (b : SearchBound) (ks : List ℕ) (l : Place × SearchBound) → l ≡ edged (lower_edge b ks) → l.0.0 ≤ length ks
 low_few b ks l e = rw e (lower_inside b ks)
 
 -- what is left to do at a node, for the bounds b
@@ -111,36 +111,36 @@ pub record Forking (r : Range) (s : State) (b : Range) (n h : ℕ) : Type 0 wher
   pub same : fork_of r s.whole ≡ fork b (suc h) place.ctx place.tree
 
 module _ {w : List ℕ} {s : State} (o : Holds w s) (r b : Range) (n : ℕ) (ks : List ℕ) (q : ks ≡ part w (base n + keys_word) (word_at w n length_word))
-    (l u : BoundEdge) (el : l ≡ edged (lower_edge b.start ks)) (eu : u ≡ edged (upper_edge b.end l.at.0 ks)) where
+    (l u : Place × SearchBound) (el : l ≡ edged (lower_edge b.start ks)) (eu : u ≡ edged (upper_edge b.end l.0.0 ks)) where
   abbrev bounds : Range
-  bounds = record { start = l.bound; end = u.bound }
+  bounds = record { start = l.1; end = u.1 }
 
   low_is : {h : ℕ} (p : At s n h) → l ≡ edged (low_at b p.ctx p.tree)
   low_is p = el ∙ ap (λ (x : List ℕ). edged (lower_edge b.start x)) (keys_are o p ks q)
 
   high_is : {h : ℕ} (p : At s n h) → u ≡ edged (high_at b p.ctx p.tree)
-  high_is p = eu ∙ (ap (λ (x : List ℕ). edged (upper_edge b.end l.at.0 x)) (keys_are o p ks q) ∙ ap (λ (x : BoundEdge). edged (upper_edge b.end x.at.0 (keys_of p.tree.rest))) (low_is p))
+  high_is p = eu ∙ (ap (λ (x : List ℕ). edged (upper_edge b.end l.0.0 x)) (keys_are o p ks q) ∙ ap (λ (x : Place × SearchBound). edged (upper_edge b.end x.0.0 (keys_of p.tree.rest))) (low_is p))
 
   low_inside : {h : ℕ} (p : At s n h) → (low_at b p.ctx p.tree).at ≤ length p.tree.rest
   low_inside p = simp length-map at (lower_inside b.start (keys_of p.tree.rest))
 
-  pub parting : (h : ℕ) → Forking r s b n h → l.at.0 < u.at.0 → Parted (record { node = record { 0 = n }; height = h; lower = l.at; upper = u.at; bounds = bounds }) ≡ forked (fork_of r s.whole)
+  pub parting : (h : ℕ) → Forking r s b n h → l.0.0 < u.0.0 → Ok (record { node = record { 0 = n }; height = h; lower = l.0; upper = u.0; bounds = bounds }) ≡ forked (fork_of r s.whole)
   parting h y v =
       let p = y.place in
       let a = low_is p in
       let c = high_is p in
       rw (a, c) (sym (ap forked (y.same ∙ fork_here b p.ctx p.tree (rw (a, c) at v))
-      ∙ ap (λ (m : ℕ). Parted (record { node = record { 0 = m }; height = h; lower = record { 0 = (low_at b p.ctx p.tree).at }; upper = record { 0 = (high_at b p.ctx p.tree).at }; bounds = bounds_at b p.ctx p.tree })) p.number))
+      ∙ ap (λ (m : ℕ). Ok (record { node = record { 0 = m }; height = h; lower = record { 0 = (low_at b p.ctx p.tree).at }; upper = record { 0 = (high_at b p.ctx p.tree).at }; bounds = bounds_at b p.ctx p.tree })) p.number))
 
-  pub coinciding : (h : ℕ) → Forking r s b n h → h ≡ 0 → u.at.0 ≤ l.at.0 → Together (record { node = record { 0 = n }; height = 0; at = l.at }) ≡ forked (fork_of r s.whole)
+  pub coinciding : (h : ℕ) → Forking r s b n h → h ≡ 0 → u.0.0 ≤ l.0.0 → Err (record { node = record { 0 = n }; height = 0; at = l.0 }) ≡ forked (fork_of r s.whole)
   coinciding zero y z v =
       let p = y.place in
       let a = low_is p in
       let c = high_is p in
-      rw a (sym (ap forked (y.same ∙ fork_below b p.ctx p.tree (rw (a, c) at v)) ∙ ap Together (leaf_at p (low_at b p.ctx p.tree).at (low_inside p))))
+      rw a (sym (ap forked (y.same ∙ fork_below b p.ctx p.tree (rw (a, c) at v)) ∙ ap Err (leaf_at p (low_at b p.ctx p.tree).at (low_inside p))))
   coinciding (suc h) y z v = absurd (omega arith)
 
-  pub forking_on : (h : ℕ) → Forking r s b n h → (h ≡ 0 → ⊥) → u.at.0 ≤ l.at.0 → (m : ℕ) → m ≡ word_at w n (edges_word + l.at.0) → Forking r s bounds m (h - 1)
+  pub forking_on : (h : ℕ) → Forking r s b n h → (h ≡ 0 → ⊥) → u.0.0 ≤ l.0.0 → (m : ℕ) → m ≡ word_at w n (edges_word + l.0.0) → Forking r s bounds m (h - 1)
   forking_on zero y z v m em = absurd (z refl)
   forking_on (suc h) y z v m em =
       let p = y.place in

@@ -8,6 +8,7 @@ use mathlib.Core.List.{List, [], ◌∷◌}
 use lib.ListN.{length, get_or}
 use Rattle.model.specs.Lists.{All, Rises}
 use Rattle.model.specs.Range.{kv, edge}
+use Rattle.search.specs.Results.{Among}
 use Rattle.search.proofs.Indexes.{index_from, index_past, index_kv, index_edge, index_end}
 
 -- ---- rising keys by places
@@ -52,8 +53,8 @@ pub record Halved (key : ℕ) (ks : List ℕ) (s i size k : ℕ) : Type 0 where
   pub below : (j : ℕ) → s ≤ j → j < i → get_or ks j 0 < key
   pub upper : Upper key ks s (i + size) k
 
-pub halved_start : (key : ℕ) (ks : List ℕ) (s size j : ℕ) → Rises ks → s ≤ j → j < length ks → s + size ≡ length ks → Halved key ks s s size (get_or ks j 0)
-halved_start key ks s size j a o l e = record { rise = a; inside = omega arith; from = omega arith; within = omega arith; below = λ j o u. absurd (omega arith); upper = some e j o l refl }
+pub halved_start : (key : ℕ) (ks : List ℕ) (s size k : ℕ) → Rises ks → Among k s ks → s + size ≡ length ks → Halved key ks s s size k
+halved_start key ks s size k a m e = record { rise = a; inside = omega (arith, m.from, m.inside); from = omega arith; within = omega arith; below = λ j o u. absurd (omega arith); upper = some e m.place m.from m.inside m.is }
 
 module _ {key : ℕ} {ks : List ℕ} {s i size k : ℕ} (h : Halved key ks s i size k) (m : ℕ) where
   -- a smaller key at the place m: the next one is at i'

@@ -33,6 +33,16 @@ module _ (k : ℕ) (ks : List ℕ) (i : ℕ) where
   pub index_end : length ks ≤ i → index_from k ks i ≡ edge i
   index_end l = rw (drop_of_length-le ks {i = i} l)
 
+-- ---- what the code's result says of the model's
+
+pub is_kv : (z : IndexResult) (p : Place) → Kv p ≡ indexed z → z ≡ kv p.0
+is_kv (kv i) p e = let y : p.0 ≡ i = cc in ap kv (sym y)
+is_kv (edge i) p e = let y : ◌≡◌ {A = ℕ} 0 1 = cc in absurd (omega arith)
+
+pub is_edge : (z : IndexResult) (p : Place) → Edge p ≡ indexed z → z ≡ edge p.0
+is_edge (kv i) p e = let y : ◌≡◌ {A = ℕ} 0 1 = cc in absurd (omega arith)
+is_edge (edge i) p e = let y : p.0 ≡ i = cc in ap edge (sym y)
+
 -- ---- an edge for a bound, from where its key stands
 
 module _ (k s : ℕ) (ks : List ℕ) (r : found.IndexResult) (is : r ≡ indexed (key_index k s ks)) (p : Place) where

@@ -1,18 +1,18 @@
 -- What the searches hand back, as records and enums of the code.
 -- Assumes nothing.
-use Rattle.std.specs.Prelude.{ℕ, zero, length}
+use Rattle.std.specs.Prelude.{ℕ, zero, ◌≡◌, ◌≤◌, ◌<◌, List, length, get_or, Result, Ok, Err}
 use Rattle.model.specs.Tree.{Ctx, top, under}
 use Rattle.model.specs.Search.{Spot, at, gap}
 use Rattle.model.specs.Range as range
 use Rattle.model.specs.Range.{kv, edge, Fork, parted, together}
+use Rattle.model.specs.declared.SearchBound.{SearchBound}
+use Rattle.node.specs.declared.Place.{Place}
 use Rattle.search.specs.declared.Handle.{Handle}
 use Rattle.search.specs.declared.SearchResult.{SearchResult}
 use Rattle.search.specs.declared.SearchResult.TheVariants.{Found, GoDown}
 use Rattle.search.specs.declared.IndexResult.{IndexResult}
 use Rattle.search.specs.declared.IndexResult.TheVariants.{Kv, Edge}
-use Rattle.search.specs.declared.BoundEdge.{BoundEdge}
-use Rattle.search.specs.declared.Bifurcation.{Bifurcation}
-use Rattle.search.specs.declared.Bifurcation.TheVariants.{Parted, Together}
+use Rattle.search.specs.declared.Parting.{Parting}
 
 -- the place i of the node n, which has h levels below it
 abbrev pub handle : ℕ → ℕ → ℕ → Handle
@@ -32,9 +32,16 @@ abbrev pub indexed : range.IndexResult → IndexResult
 indexed (kv i) = Kv (record { 0 = i })
 indexed (edge i) = Edge (record { 0 = i })
 
-abbrev pub edged : range.BoundEdge → BoundEdge
-edged d = record { at = record { 0 = d.at }; bound = d.bound }
+abbrev pub edged : range.BoundEdge → Place × SearchBound
+edged d = (record { 0 = d.at }, d.bound)
 
-abbrev pub forked : Fork → Bifurcation
-forked (parted {h = h} c t i j b) = Parted (record { node = record { 0 = t.no }; height = h; lower = record { 0 = i }; upper = record { 0 = j }; bounds = b })
-forked (together c) = Together (leaf_edge c)
+abbrev pub forked : Fork → Result Parting Handle
+forked (parted {h = h} c t i j b) = Ok (record { node = record { 0 = t.no }; height = h; lower = record { 0 = i }; upper = record { 0 = j }; bounds = b })
+forked (together c) = Err (leaf_edge c)
+
+-- k is one of the keys ks, from the place s on
+pub record Among (k s : ℕ) (ks : List ℕ) : Type 0 where
+  pub place : ℕ
+  pub from : s ≤ place
+  pub inside : place < length ks
+  pub is : k ≡ get_or ks place 0

@@ -10,7 +10,7 @@ ghost use Rattle.cutting.specs.Trims.{shortened, cut_node, CutReady, Goal, Trims
 
 use columns::set_len;
 use header::HEIGHT;
-use node::{Ascent, CAPACITY, EDGES, KEYS, NodeNo, Place, VALS, ascend, node_base};
+use node::{CAPACITY, EDGES, KEYS, NodeNo, Place, VALS, ascend, node_base};
 use slices::clear;
 use totals::set_right;
 
@@ -56,7 +56,7 @@ pub fn cut_along(a: &mut [u64], leaf: NodeNo, edge: Place)
     let mut at = edge;
     loop {
         cut_node(a, node, at);
-        let Ascent::Edge(parent, place) = ascend(a, node) else {
+        let Some((parent, place)) = ascend(a, node) else {
             return;
         };
         levels -= 1;

@@ -8,6 +8,7 @@ use mathlib.Core.Path.{◌≡◌, refl, sym, ap, ap₂, ◌∙◌, subst}
 use mathlib.Core.List.{List, [], ◌∷◌, map}
 use lib.ListN.{length, get_or, length-append, length-map, length-set}
 use lib.Seq.{get_or-set_same, get_or-set_other, set_out}
+use Rattle.std.specs.Prelude.{Some, None}
 use Rattle.model.specs.Lists.{times, one}
 use Rattle.model.specs.Layout.{none, most, largest_count, header, height_word, word_at, parent_word, place_word, total_word, NodeVal, nth, blank, Arena}
 use Rattle.model.specs.Tree.{Item, Tree, Frame, Ctx, top, under, fill, fill_first, fill_rest, flat, flats, has_in, has}
@@ -29,9 +30,8 @@ use Rattle.standing.proofs.Changes.{kept_trans}
 use Rattle.standing.proofs.Contents.{content_fill}
 use Rattle.node.specs.declared.NodeNo.{NodeNo}
 use Rattle.node.specs.declared.Place.{Place}
-use Rattle.node.specs.declared.Ascent.TheVariants.{Edge, Root}
 use Rattle.node.specs.Reading.{Within, ascent_of}
-use Rattle.node.proofs.Reading.{within, parent_is, place_is, total_is, ascent_root, ascent_edge}
+use Rattle.node.proofs.Reading.{same_node, within, parent_is, place_is, total_is, ascent_root, ascent_edge}
 use lib.Dec.{lit<}
 use Rattle.store.proofs.Chain.{head_is}
 use Rattle.balance.specs.Moves.{Shaped}
@@ -367,7 +367,7 @@ module _ {w hd : List ℕ} {ns : List NodeVal} {n levels was now : ℕ} (S : Set
     links_are : ascent_of (word_at w' n parent_word) (word_at w' n place_word) ≡ ascent_of (nth (recount S.nodes n) n).parent (nth (recount S.nodes n) n).place
     links_are = ap₂ ascent_of (parent_is lift_arena n after_inside) (place_is lift_arena n after_inside)
 
-    pub lift_end : ascent_of (word_at w' n parent_word) (word_at w' n place_word) ≡ Root → Settled w' hd ns
+    pub lift_end : ascent_of (word_at w' n parent_word) (word_at w' n place_word) ≡ None → Settled w' hd ns
     lift_end e = go K.way K.tree K.stand K.node_is
       where
         go : (c : Ctx (suc K.height)) (t : Tree (suc K.height)) → Part S.nodes c t K.free → t.no ≡ n → Settled w' hd ns
@@ -384,7 +384,7 @@ module _ {w hd : List ℕ} {ns : List NodeVal} {n levels was now : ℕ} (S : Set
             let z : ◌≡◌ {A = ℕ} 0 1 = cc in
             absurd (omega arith)
 
-    pub lift_on : (p : NodeNo) (i : Place) → ascent_of (word_at w' n parent_word) (word_at w' n place_word) ≡ Edge p i → (1 ≤ levels) × Settling w' hd ns p.0 (levels - 1) was now
+    pub lift_on : (p : NodeNo) (i : Place) → ascent_of (word_at w' n parent_word) (word_at w' n place_word) ≡ Some (p, i) → (1 ≤ levels) × Settling w' hd ns p.0 (levels - 1) was now
     lift_on p i e = go K.way K.tree K.stand K.node_is K.deep S.lifts.off
       where
         go : (c : Ctx (suc K.height)) (t : Tree (suc K.height)) → Part S.nodes c t K.free → t.no ≡ n → above c ≤ levels → (nth S.nodes n).total + now ≡ length (flat (suc K.height) t) + was
@@ -399,7 +399,7 @@ module _ {w hd : List ℕ} {ns : List NodeVal} {n levels was now : ℕ} (S : Set
             let k = (hangs f c t K.free (right_part (under f c) t K.free H)).link in
             let k' = subst (λ (q : ℕ). link_of (nth (recount S.nodes q) q) ≡ record { parent = f.no; place = length f.left }) m k in
             let a = links_are ∙ ap₂ ascent_of (link_parent k') (link_place k') ∙ ascent_edge f.no (length f.left) (λ z. omega (arith, root_inside c (fill f.no f.left t f.right) K.free (part_out f c t K.free H), H.few)) in
-            let ep : f.no ≡ p.0 = cc in
+            let ep : f.no ≡ p.0 = same_node (sym a ∙ e) in
             let T : TotalsBut (t.no ∷ []) S.nodes = subst (λ (k : ℕ). TotalsBut (k ∷ []) S.nodes) (sym m) K.told in
             let o' = subst (λ (q : ℕ). (nth S.nodes q).total + now ≡ length (flat (suc K.height) t) + was) (sym m) o in
             let r : (q : ℕ) → t.no ≡ q → Arena w' hd (recount S.nodes q) → Settling w' hd ns f.no (levels - 1) was now = λ q z. subst (λ (q : ℕ). Arena w' hd (recount S.nodes q) → Settling w' hd ns f.no (levels - 1) was now) z (λ ar. record {

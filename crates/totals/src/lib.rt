@@ -9,7 +9,7 @@ ghost use Rattle.standing.specs.Totals.{due, put_total, recount};
 ghost use Rattle.balance.specs.Moves.{edges_with, Shaped};
 ghost use Rattle.totals.specs.Settling.{Lifts, Settles, Settled};
 
-use node::{Ascent, INTERNAL, NodeNo, Place, TOTAL, ascend, edge, len, node_base, state, total};
+use node::{INTERNAL, NodeNo, Place, TOTAL, ascend, edge, len, node_base, state, total};
 
 // What the count of a node should be: its own pairs and the counts of the nodes that its `end` edges lead to.
 fn tally(a: &[u64], n: NodeNo, end: usize) -> u64
@@ -75,7 +75,7 @@ fn lift(a: &mut [u64], n: NodeNo, was: u64, is: u64)
     let mut node = n;
     loop {
         change(a, node, was, is);
-        let Ascent::Edge(parent, _) = ascend(a, node) else {
+        let Some((parent, _)) = ascend(a, node) else {
             return;
         };
         levels -= 1;

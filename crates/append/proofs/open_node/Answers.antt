@@ -40,7 +40,7 @@ returns-in_default c =
 pub len-requires : goal.len-requires
 len-requires c =
     let d = c in
-    above_within (known (goal.at.len-requires c).At-loop-parent) d.in-Edge.parent d.in-Edge.field-1 (sym d.ascend.ensures ∙ d.in-Edge.is)
+    above_within (known (goal.at.len-requires c).At-loop-parent) d.in-Some.parent d.in-Some.field-0-1 (sym d.ascend.ensures ∙ d.in-Some.is)
 
 pub shape_of-a-then-len-lt-CAPACITY : goal.shape_of-a-then-len-lt-CAPACITY
 shape_of-a-then-len-lt-CAPACITY c = ap length c.loop-parent.invariant.0
@@ -49,13 +49,13 @@ pub returns-then-len-lt-CAPACITY : goal.returns-then-len-lt-CAPACITY
 returns-then-len-lt-CAPACITY c =
     λ g p t k.
     let d = c in
-    above_roomy (d.loop-parent.invariant.1 g p t k) d.in-Edge.parent d.in-Edge.field-1 (sym d.ascend.ensures ∙ d.in-Edge.is) (omega (arith, c.len.ensures, c.if-len-lt-CAPACITY.true))
+    above_roomy (d.loop-parent.invariant.1 g p t k) d.in-Some.parent d.in-Some.field-0-1 (sym d.ascend.ensures ∙ d.in-Some.is) (omega (arith, c.len.ensures, c.if-len-lt-CAPACITY.true))
 
 -- the node above, which is full
-on : (c : Else-len-lt-CAPACITY) (g : Rest) (p : Pair) (t : Loading) → let d = c in let l = d.loop-parent in Rising l.a g l.node.0 l.levels p t → Rising l.a g d.in-Edge.parent.0 (l.levels + 1) p t
+on : (c : Else-len-lt-CAPACITY) (g : Rest) (p : Pair) (t : Loading) → let d = c in let l = d.loop-parent in Rising l.a g l.node.0 l.levels p t → Rising l.a g d.in-Some.parent.0 (l.levels + 1) p t
 on c g p t k =
     let d = c in
-    above_full k d.in-Edge.parent d.in-Edge.field-1 (sym d.ascend.ensures ∙ d.in-Edge.is) (omega (arith, c.len.ensures, c.if-len-lt-CAPACITY.false))
+    above_full k d.in-Some.parent d.in-Some.field-0-1 (sym d.ascend.ensures ∙ d.in-Some.is) (omega (arith, c.len.ensures, c.if-len-lt-CAPACITY.false))
 
 pub overflow_add-levels : goal.overflow_add-levels
 overflow_add-levels c = omega (arith, rising_few (known (goal.at.overflow_add-levels c).At-loop-parent))

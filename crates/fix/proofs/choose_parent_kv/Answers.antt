@@ -13,16 +13,16 @@ returns-in_default c = λ g t m. chose_root m (sym c.ascend.ensures ∙ c.in_def
 
 pub edge-left-requires : goal.edge-left-requires
 edge-left-requires c =
-    let k = parent_known c.requires.mending _ _ (sym c.ascend.ensures ∙ c.in-Edge.is) in
+    let k = parent_known c.requires.mending _ _ (sym c.ascend.ensures ∙ c.in-Some.is) in
     (k.0, omega (arith, k.1))
 
 pub returns-then-i-gt0 : goal.returns-then-i-gt0
-returns-then-i-gt0 c = λ g t m. chose_left m _ _ (sym c.ascend.ensures ∙ c.in-Edge.is) (omega arith) _ c.edge-left.ensures _ refl
+returns-then-i-gt0 c = λ g t m. chose_left m _ _ (sym c.ascend.ensures ∙ c.in-Some.is) (omega arith) _ c.edge-left.ensures _ refl
 
 pub edge-right-requires : goal.edge-right-requires
 edge-right-requires c =
-    let k = parent_known c.requires.mending _ _ (sym c.ascend.ensures ∙ c.in-Edge.is) in
+    let k = parent_known c.requires.mending _ _ (sym c.ascend.ensures ∙ c.in-Some.is) in
     (k.0, omega arith)
 
 pub returns : goal.returns
-returns c = λ g t m. chose_right m _ _ (sym c.ascend.ensures ∙ c.in-Edge.is) (λ o. omega (arith, c.if-i-gt0.false)) _ c.edge-right.ensures _ refl
+returns c = λ g t m. chose_right m _ _ (sym c.ascend.ensures ∙ c.in-Some.is) (λ o. omega (arith, c.if-i-gt0.false)) _ c.edge-right.ensures _ refl

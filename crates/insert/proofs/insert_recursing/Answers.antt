@@ -16,7 +16,7 @@ use Rattle.insert.specs.declared.Inserted.{Inserted}
 use Rattle.insert.specs.Inserts.{Roomy, ClimbIn, Upward}
 use Rattle.insert.proofs.Targets.{upward}
 use Rattle.insert.proofs.insert_recursing.Goals as goal
-use Rattle.insert.proofs.insert_recursing.Goals.{After-insert_leaf-inserted, At-loop-inserted, In-Edge, In-Split, In_default-ascend, at-At-loop-inserted, at-In-Edge, at-In_default-ascend}
+use Rattle.insert.proofs.insert_recursing.Goals.{After-insert_leaf-inserted, At-loop-inserted, In-Some, In-Split, In_default-ascend, at-At-loop-inserted, at-In-Some, at-In_default-ascend}
 
 -- where the climb is going: after the leaf, and at the loop's test
 begun : (c : After-insert_leaf-inserted) → let x = c.args in (s : State) → Holds x.a.now s → (y : Roomy s x.edge)
@@ -47,12 +47,12 @@ hung : (c : In_default-ascend) (g : Rest) (t : Grown) → let l = c.loop-inserte
 hung c g t u = record { node = _; levels = _; climb = rising (at-In_default-ascend c).In-Split g t u; hangs = sym c.ascend.ensures ∙ c.in_default-ascend.is }
 
 -- or there is one
-over : (c : In-Edge) (g : Rest) (t : Grown) → let l = c.loop-inserted in let r = c.in-Split.split in
-    Upward l.a g l.node.0 l.levels l.inserted t → Above l.a g c.in-Edge.parent.0 c.in-Edge.idx.0 r.right.0 l.levels (pair_of r.kv) t
-over c g t u = above _ _ _ (rising (at-In-Edge c).In-Split g t u) c.in-Edge.parent c.in-Edge.idx (sym c.ascend.ensures ∙ c.in-Edge.is)
+over : (c : In-Some) (g : Rest) (t : Grown) → let l = c.loop-inserted in let r = c.in-Split.split in
+    Upward l.a g l.node.0 l.levels l.inserted t → Above l.a g c.in-Some.parent.0 c.in-Some.idx.0 r.right.0 l.levels (pair_of r.kv) t
+over c g t u = above _ _ _ (rising (at-In-Some c).In-Split g t u) c.in-Some.parent c.in-Some.idx (sym c.ascend.ensures ∙ c.in-Some.is)
 
-some : (c : In-Edge) → 1 ≤ c.loop-inserted.levels
-some c = (over c _ _ (known (at-In-Edge c).At-loop-inserted)).some
+some : (c : In-Some) → 1 ≤ c.loop-inserted.levels
+some c = (over c _ _ (known (at-In-Some c).At-loop-inserted)).some
 
 pub height-levels-requires : goal.height-levels-requires
 height-levels-requires c = held c.requires.holds
@@ -88,20 +88,20 @@ pub returns-in_default-ascend : goal.returns-in_default-ascend
 returns-in_default-ascend c = λ s o y. c.split_root.ensures (rest_of s) _ (hung (goal.at.returns-in_default-ascend c).In_default-ascend _ _ (here (goal.at.returns-in_default-ascend c).At-loop-inserted s o y))
 
 pub overflow_sub-levels : goal.overflow_sub-levels
-overflow_sub-levels c = omega (arith, some (goal.at.overflow_sub-levels c).In-Edge)
+overflow_sub-levels c = omega (arith, some (goal.at.overflow_sub-levels c).In-Some)
 
 pub insert_internal-inserted-requires : goal.insert_internal-inserted-requires
 insert_internal-inserted-requires c =
-    let a = over (goal.at.insert_internal-inserted-requires c).In-Edge _ _ (known (goal.at.insert_internal-inserted-requires c).At-loop-inserted) in
+    let a = over (goal.at.insert_internal-inserted-requires c).In-Some _ _ (known (goal.at.insert_internal-inserted-requires c).At-loop-inserted) in
     record { height = a.height; gap = a.next.gap }
 
 pub loop-inserted-smaller : goal.loop-inserted-smaller
-loop-inserted-smaller c = omega (arith, some (goal.at.loop-inserted-smaller c).In-Edge)
+loop-inserted-smaller c = omega (arith, some (goal.at.loop-inserted-smaller c).In-Some)
 
 pub loop-inserted-preserved : goal.loop-inserted-preserved
 loop-inserted-preserved c = (
   c.insert_internal-inserted.auto.a ∙ c.loop-inserted.invariant.0,
   λ g t u.
-      let a = over (goal.at.loop-inserted-preserved c).In-Edge g t (c.loop-inserted.invariant.1 g t u) in
+      let a = over (goal.at.loop-inserted-preserved c).In-Some g t (c.loop-inserted.invariant.1 g t u) in
       upward a.next _ c.insert_internal-inserted.result (c.insert_internal-inserted.ensures a.height a.next.gap),
 )

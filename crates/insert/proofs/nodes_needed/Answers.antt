@@ -10,7 +10,7 @@ use Rattle.model.specs.Promise.{Holds}
 use Rattle.header.proofs.Headed.{held}
 use Rattle.insert.proofs.Needed.{Counting, count_start, count_within, count_low, count_few, count_ended, count_root, count_on}
 use Rattle.insert.proofs.nodes_needed.Goals as goal
-use Rattle.insert.proofs.nodes_needed.Goals.{At-loop-node, In-Edge, at-In-Edge}
+use Rattle.insert.proofs.nodes_needed.Goals.{At-loop-node, In-Some, at-In-Some}
 
 -- the count at the loop's test, of the state that the caller knows of
 known : (c : At-loop-node) → Counting (needed c.requires.there.way) c.requires.state c.loop-node.node.0 c.loop-node.count
@@ -43,12 +43,12 @@ returns-in_default c =
     count_root o _ _ _ k (omega (arith, c.len.ensures, c.if-len-lt-CAPACITY.false)) (sym c.ascend.ensures ∙ c.in_default.is)
 
 -- the count at the parent
-on : (c : In-Edge) (total : ℕ) (s : State) → Holds c.args.a.now s
-    → Counting total s c.loop-node.node.0 c.loop-node.count → Counting total s c.in-Edge.parent.0 (c.loop-node.count + 1)
-on c total s o k = count_on o _ _ _ k (omega (arith, c.len.ensures, c.if-len-lt-CAPACITY.false)) c.in-Edge.parent c.in-Edge.field-1 (sym c.ascend.ensures ∙ c.in-Edge.is)
+on : (c : In-Some) (total : ℕ) (s : State) → Holds c.args.a.now s
+    → Counting total s c.loop-node.node.0 c.loop-node.count → Counting total s c.in-Some.parent.0 (c.loop-node.count + 1)
+on c total s o k = count_on o _ _ _ k (omega (arith, c.len.ensures, c.if-len-lt-CAPACITY.false)) c.in-Some.parent c.in-Some.field-0-1 (sym c.ascend.ensures ∙ c.in-Some.is)
 
-low : (c : In-Edge) → c.loop-node.count + 1 ≤ header c.args.a.now height_word
-low c = let q = c.requires in count_low q.holds _ _ _ (on c _ q.state q.holds (known (at-In-Edge c).At-loop-node))
+low : (c : In-Some) → c.loop-node.count + 1 ≤ header c.args.a.now height_word
+low c = let q = c.requires in count_low q.holds _ _ _ (on c _ q.state q.holds (known (at-In-Some c).At-loop-node))
 
 pub overflow_add-count : goal.overflow_add-count
 overflow_add-count c = omega (arith, count_few c.requires.holds _ _ _ (known (goal.at.overflow_add-count c).At-loop-node))

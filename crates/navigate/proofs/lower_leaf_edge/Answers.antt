@@ -24,14 +24,14 @@ loop-height-init c =
 pub keys-part-requires : goal.keys-part-requires
 keys-part-requires c = let x = c in let o = forward x.args.a.now x.requires in at_within o (c.loop-height.invariant _ o).place
 
-pub find_lower_bound_index-low-requires : goal.find_lower_bound_index-low-requires
-find_lower_bound_index-low-requires c =
+pub find_lower_bound_index-below-requires : goal.find_lower_bound_index-below-requires
+find_lower_bound_index-below-requires c =
     let x = c in
     let o = forward x.args.a.now x.requires in
     keys_rise o (c.loop-height.invariant _ o).place c.keys-part.result.now c.keys-part.ensures
 
 pub returns-then-height-eq0 : goal.returns-then-height-eq0
-returns-then-height-eq0 c = λ s o. lowered _ o _ _ c.keys-part.result.now c.keys-part.ensures c.find_lower_bound_index-low.result c.find_lower_bound_index-low.ensures _ (c.loop-height.invariant s o) c.if-height-eq0.true
+returns-then-height-eq0 c = λ s o. lowered _ o _ _ c.keys-part.result.now c.keys-part.ensures c.find_lower_bound_index-below.result c.find_lower_bound_index-below.ensures _ (c.loop-height.invariant s o) c.if-height-eq0.true
 
 pub edge-node-requires : goal.edge-node-requires
 edge-node-requires c =
@@ -39,8 +39,8 @@ edge-node-requires c =
     let o = forward x.args.a.now x.requires in
     let y = c.loop-height.invariant _ o in
     let ks = c.keys-part in
-    let d = c.find_lower_bound_index-low in
+    let d = c.find_lower_bound_index-below in
     ((at_within o y.place).0, omega (arith, keys_few o y.place ks.result.now ks.ensures, low_few c.loop-height.bound ks.result.now d.result d.ensures))
 
 pub loop-height-preserved : goal.loop-height-preserved
-loop-height-preserved c = λ s o. lowering_on _ o _ _ c.keys-part.result.now c.keys-part.ensures c.find_lower_bound_index-low.result c.find_lower_bound_index-low.ensures _ (c.loop-height.invariant s o) c.if-height-eq0.false c.edge-node.result.0 c.edge-node.ensures
+loop-height-preserved c = λ s o. lowering_on _ o _ _ c.keys-part.result.now c.keys-part.ensures c.find_lower_bound_index-below.result c.find_lower_bound_index-below.ensures _ (c.loop-height.invariant s o) c.if-height-eq0.false c.edge-node.result.0 c.edge-node.ensures

@@ -27,8 +27,8 @@ loop-height-init c =
 pub keys-part-requires : goal.keys-part-requires
 keys-part-requires c = let x = c in let o = forward x.args.a.now x.requires in at_within o (c.loop-height.invariant _ o).place
 
-pub find_lower_bound_index-low-requires : goal.find_lower_bound_index-low-requires
-find_lower_bound_index-low-requires c =
+pub find_lower_bound_index-below-requires : goal.find_lower_bound_index-below-requires
+find_lower_bound_index-below-requires c =
     let x = c in
     let o = forward x.args.a.now x.requires in
     keys_rise o (c.loop-height.invariant _ o).place c.keys-part.result.now c.keys-part.ensures
@@ -38,13 +38,13 @@ overflow_add-result c =
     let x = c in
     let o = forward x.args.a.now x.requires in
     let ks = c.keys-part in
-    let d = c.find_lower_bound_index-low in
+    let d = c.find_lower_bound_index-below in
     omega (arith, low_few _ o _ _ _ ks.result.now ks.ensures d.result d.ensures _ (c.loop-height.invariant _ o))
 
 pub returns-then-height-eq0 : goal.returns-then-height-eq0
 returns-then-height-eq0 c =
     let ks = c.keys-part in
-    let d = c.find_lower_bound_index-low in
+    let d = c.find_lower_bound_index-below in
     λ s o. sunk _ o _ _ _ ks.result.now ks.ensures d.result d.ensures _ (c.loop-height.invariant s o) c.if-height-eq0.true
 
 pub left_of-sum-requires : goal.left_of-sum-requires
@@ -52,7 +52,7 @@ left_of-sum-requires c =
     let x = c in
     let o = forward x.args.a.now x.requires in
     let ks = c.keys-part in
-    let d = c.find_lower_bound_index-low in
+    let d = c.find_lower_bound_index-below in
     record { state = _; holds = o; there = edge_ready _ o _ _ _ ks.result.now ks.ensures d.result d.ensures _ (c.loop-height.invariant _ o) c.if-height-eq0.false }
 
 pub overflow_add-sum : goal.overflow_add-sum
@@ -60,7 +60,7 @@ overflow_add-sum c =
     let x = c in
     let o = forward x.args.a.now x.requires in
     let ks = c.keys-part in
-    let d = c.find_lower_bound_index-low in
+    let d = c.find_lower_bound_index-below in
     omega (arith, sink_few _ o _ _ _ ks.result.now ks.ensures d.result d.ensures _ (c.loop-height.invariant _ o) c.if-height-eq0.false _ (c.left_of-sum.ensures _ o))
 
 pub edge-node-requires : goal.edge-node-requires
@@ -68,12 +68,12 @@ edge-node-requires c =
     let x = c in
     let o = forward x.args.a.now x.requires in
     let ks = c.keys-part in
-    let d = c.find_lower_bound_index-low in
+    let d = c.find_lower_bound_index-below in
     let y = c.loop-height.invariant _ o in
     ((at_within o y.place).0, (low_few _ o _ _ _ ks.result.now ks.ensures d.result d.ensures _ y).1)
 
 pub loop-height-preserved : goal.loop-height-preserved
 loop-height-preserved c =
     let ks = c.keys-part in
-    let d = c.find_lower_bound_index-low in
+    let d = c.find_lower_bound_index-below in
     λ s o. sinking_on _ o _ _ _ ks.result.now ks.ensures d.result d.ensures _ (c.loop-height.invariant s o) c.if-height-eq0.false _ (c.left_of-sum.ensures s o) c.edge-node.result.0 c.edge-node.ensures

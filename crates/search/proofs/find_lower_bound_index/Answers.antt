@@ -5,7 +5,7 @@ use mathlib.Core.Path.{sym, ap, ◌∙◌}
 use Rattle.model.specs.declared.SearchBound.{SearchBound}
 use Rattle.model.specs.declared.SearchBound.TheVariants.{Included, Excluded, AllIncluded, AllExcluded}
 use Rattle.model.specs.Range.{lower_edge}
-use Rattle.search.specs.declared.BoundEdge.{BoundEdge}
+use Rattle.node.specs.declared.Place.{Place}
 use Rattle.search.specs.Results.{edged}
 use Rattle.search.proofs.Indexes.{kv_inside, at_kv, at_edge}
 use Rattle.search.proofs.find_lower_bound_index.Goals as goal
@@ -34,7 +34,7 @@ pub returns-in-Kv-find_key_index : goal.returns-in-Kv-find_key_index
 returns-in-Kv-find_key_index c =
     let x = c.args in
     let d = c.find_key_index-in-Excluded in
-    ap {B = BoundEdge} (λ (j : ℕ). record { at = record { 0 = j }; bound = AllIncluded }) (add-one c.in-Kv-find_key_index.i.0)
+    ap {B = Place × SearchBound} (λ (j : ℕ). (record { 0 = j }, AllIncluded)) (add-one c.in-Kv-find_key_index.i.0)
     ∙ (at_kv c.in-Excluded.key 0 x.keys.now d.result d.ensures c.in-Kv-find_key_index.i (λ i. record { at = suc i; bound = AllIncluded }) (Excluded c.in-Excluded.key) c.in-Kv-find_key_index.is
     ∙ ap (λ (s : SearchBound). edged (lower_edge s x.keys.now)) (sym c.in-Excluded.is))
 

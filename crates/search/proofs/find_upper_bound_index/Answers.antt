@@ -6,7 +6,7 @@ use lib.ListN.{drop, length-drop}
 use Rattle.model.specs.declared.SearchBound.{SearchBound}
 use Rattle.model.specs.declared.SearchBound.TheVariants.{Included, Excluded, AllIncluded, AllExcluded}
 use Rattle.model.specs.Range.{upper_edge}
-use Rattle.search.specs.declared.BoundEdge.{BoundEdge}
+use Rattle.node.specs.declared.Place.{Place}
 use Rattle.search.specs.Results.{edged}
 use Rattle.search.proofs.Indexes.{kv_inside, at_kv, at_edge}
 use Rattle.search.proofs.find_upper_bound_index.Goals as goal
@@ -22,7 +22,7 @@ pub returns-in-Kv : goal.returns-in-Kv
 returns-in-Kv c =
     let x = c.args in
     let d = c.find_key_index in
-    ap {B = BoundEdge} (λ (j : ℕ). record { at = record { 0 = j }; bound = AllExcluded }) (add-one c.in-Kv.p.0)
+    ap {B = Place × SearchBound} (λ (j : ℕ). (record { 0 = j }, AllExcluded)) (add-one c.in-Kv.p.0)
     ∙ (at_kv c.in-Included.key x.start.0 (drop x.start.0 x.keys.now) d.result d.ensures c.in-Kv.p (λ i. record { at = suc i; bound = AllExcluded }) (Included c.in-Included.key) c.in-Kv.is
     ∙ ap (λ (s : SearchBound). edged (upper_edge s x.start.0 x.keys.now)) (sym c.in-Included.is))
 

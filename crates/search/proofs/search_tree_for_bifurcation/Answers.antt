@@ -30,17 +30,17 @@ rises c =
     let o = forward x.args.a.now x.requires in
     keys_rise o (c.loop-node.invariant _ o).place c.keys-part.result.now c.keys-part.ensures
 
-pub find_lower_bound_index-low-requires : goal.find_lower_bound_index-low-requires
-find_lower_bound_index-low-requires c = rises c
+pub find_lower_bound_index-start-requires : goal.find_lower_bound_index-start-requires
+find_lower_bound_index-start-requires c = rises c
 
-pub find_upper_bound_index-high-requires : goal.find_upper_bound_index-high-requires
-find_upper_bound_index-high-requires c = (low_few c.loop-node.bounds.start c.keys-part.result.now c.find_lower_bound_index-low.result c.find_lower_bound_index-low.ensures, rises (goal.at.find_upper_bound_index-high-requires c).After-keys-part)
+pub find_upper_bound_index-end-requires : goal.find_upper_bound_index-end-requires
+find_upper_bound_index-end-requires c = (low_few c.loop-node.bounds.start c.keys-part.result.now c.find_lower_bound_index-start.result c.find_lower_bound_index-start.ensures, rises (goal.at.find_upper_bound_index-end-requires c).After-keys-part)
 
 pub returns-then-lower-upper : goal.returns-then-lower-upper
-returns-then-lower-upper c = λ s o. parting o c.args.range c.loop-node.bounds _ c.keys-part.result.now c.keys-part.ensures c.find_lower_bound_index-low.result c.find_upper_bound_index-high.result c.find_lower_bound_index-low.ensures c.find_upper_bound_index-high.ensures _ (c.loop-node.invariant s o) c.if-lower-upper.true
+returns-then-lower-upper c = λ s o. parting o c.args.range c.loop-node.bounds _ c.keys-part.result.now c.keys-part.ensures c.find_lower_bound_index-start.result c.find_upper_bound_index-end.result c.find_lower_bound_index-start.ensures c.find_upper_bound_index-end.ensures _ (c.loop-node.invariant s o) c.if-lower-upper.true
 
 pub returns-then-height-eq0 : goal.returns-then-height-eq0
-returns-then-height-eq0 c = λ s o. coinciding o c.args.range c.loop-node.bounds _ c.keys-part.result.now c.keys-part.ensures c.find_lower_bound_index-low.result c.find_upper_bound_index-high.result c.find_lower_bound_index-low.ensures c.find_upper_bound_index-high.ensures _ (c.loop-node.invariant s o) c.if-height-eq0.true (omega (arith, c.if-lower-upper.false))
+returns-then-height-eq0 c = λ s o. coinciding o c.args.range c.loop-node.bounds _ c.keys-part.result.now c.keys-part.ensures c.find_lower_bound_index-start.result c.find_upper_bound_index-end.result c.find_lower_bound_index-start.ensures c.find_upper_bound_index-end.ensures _ (c.loop-node.invariant s o) c.if-height-eq0.true (omega (arith, c.if-lower-upper.false))
 
 pub edge-node-requires : goal.edge-node-requires
 edge-node-requires c =
@@ -48,8 +48,8 @@ edge-node-requires c =
     let o = forward x.args.a.now x.requires in
     let y = c.loop-node.invariant _ o in
     let ks = c.keys-part in
-    let d = c.find_lower_bound_index-low in
+    let d = c.find_lower_bound_index-start in
     ((at_within o y.place).0, omega (arith, keys_few o y.place ks.result.now ks.ensures, low_few c.loop-node.bounds.start ks.result.now d.result d.ensures))
 
 pub loop-node-preserved : goal.loop-node-preserved
-loop-node-preserved c = λ s o. forking_on o c.args.range c.loop-node.bounds _ c.keys-part.result.now c.keys-part.ensures c.find_lower_bound_index-low.result c.find_upper_bound_index-high.result c.find_lower_bound_index-low.ensures c.find_upper_bound_index-high.ensures _ (c.loop-node.invariant s o) c.if-height-eq0.false (omega (arith, c.if-lower-upper.false)) c.edge-node.result.0 c.edge-node.ensures
+loop-node-preserved c = λ s o. forking_on o c.args.range c.loop-node.bounds _ c.keys-part.result.now c.keys-part.ensures c.find_lower_bound_index-start.result c.find_upper_bound_index-end.result c.find_lower_bound_index-start.ensures c.find_upper_bound_index-end.ensures _ (c.loop-node.invariant s o) c.if-height-eq0.false (omega (arith, c.if-lower-upper.false)) c.edge-node.result.0 c.edge-node.ensures

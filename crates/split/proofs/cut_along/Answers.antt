@@ -8,7 +8,7 @@ use Rattle.node.proofs.Reading.{arena_length}
 use Rattle.cutting.specs.Trims.{Goal, Trims}
 use Rattle.cutting.proofs.Upward.{cut_begin, trims_ready, cut_after, cut_end, cut_on}
 use Rattle.split.proofs.cut_along.Goals as goal
-use Rattle.split.proofs.cut_along.Goals.{At-loop-parent, In-Edge, at-In-Edge}
+use Rattle.split.proofs.cut_along.Goals.{At-loop-parent, In-Some, at-In-Some}
 
 known : (c : At-loop-parent) → let x = c in Trims c.loop-parent.a x.requires.head x.requires.goal c.loop-parent.node.0 c.loop-parent.at.0 c.loop-parent.levels
 known c = let p = c.requires in c.loop-parent.invariant.1 _ _ (cut_begin p.trims)
@@ -34,14 +34,14 @@ returns-in_default c =
     let t = c in
     cut_end (t.loop-parent.invariant.1 hd g (cut_begin t₀)) _ t.cut_node.ensures (sym c.ascend.ensures ∙ c.in_default.is)
 
-on : (c : In-Edge) → let t = c in let l = t.loop-parent in
-    (hd : List ℕ) (g : Goal) → Trims l.a hd g l.node.0 l.at.0 l.levels → (1 ≤ l.levels) × Trims t.cut_node.new.a hd g c.in-Edge.parent.0 c.in-Edge.place.0 (l.levels - 1)
+on : (c : In-Some) → let t = c in let l = t.loop-parent in
+    (hd : List ℕ) (g : Goal) → Trims l.a hd g l.node.0 l.at.0 l.levels → (1 ≤ l.levels) × Trims t.cut_node.new.a hd g c.in-Some.parent.0 c.in-Some.place.0 (l.levels - 1)
 on c hd g s =
     let t = c in
-    cut_on s _ t.cut_node.ensures c.in-Edge.parent c.in-Edge.place (sym c.ascend.ensures ∙ c.in-Edge.is)
+    cut_on s _ t.cut_node.ensures c.in-Some.parent c.in-Some.place (sym c.ascend.ensures ∙ c.in-Some.is)
 
-some : (c : In-Edge) → 1 ≤ c.loop-parent.levels
-some c = (on c _ _ (known (at-In-Edge c).At-loop-parent)).0
+some : (c : In-Some) → 1 ≤ c.loop-parent.levels
+some c = (on c _ _ (known (at-In-Some c).At-loop-parent)).0
 
 pub overflow_sub-levels : goal.overflow_sub-levels
 overflow_sub-levels c = omega (arith, some c)

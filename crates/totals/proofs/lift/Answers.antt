@@ -9,7 +9,7 @@ use Rattle.node.proofs.Reading.{arena_length}
 use Rattle.totals.specs.Settling.{Settling}
 use Rattle.totals.proofs.Settling.{lift_begin, lift_within, lift_room, lift_after, lift_end, lift_on}
 use Rattle.totals.proofs.lift.Goals as goal
-use Rattle.totals.proofs.lift.Goals.{At-loop-parent, In-Edge, at-In-Edge}
+use Rattle.totals.proofs.lift.Goals.{At-loop-parent, In-Some, at-In-Some}
 
 known : (c : At-loop-parent) → let x = c in Settling c.loop-parent.a x.requires.head x.requires.nodes c.loop-parent.node.0 c.loop-parent.levels x.args.was x.args.is
 known c = let p = c.requires in c.loop-parent.invariant.1 _ _ (lift_begin c.height-levels.ensures p.arena p.holds)
@@ -35,14 +35,14 @@ returns-in_default c =
     let t = c in
     lift_end (t.loop-parent.invariant.1 hd ns (lift_begin c.height-levels.ensures a l)) _ t.change.ensures (sym c.ascend.ensures ∙ c.in_default.is)
 
-on : (c : In-Edge) → let t = c in let l = t.loop-parent in let x = t.args in
-    (hd : List ℕ) (ns : List NodeVal) → Settling l.a hd ns l.node.0 l.levels x.was x.is → (1 ≤ l.levels) × Settling t.change.new.a hd ns c.in-Edge.parent.0 (l.levels - 1) x.was x.is
+on : (c : In-Some) → let t = c in let l = t.loop-parent in let x = t.args in
+    (hd : List ℕ) (ns : List NodeVal) → Settling l.a hd ns l.node.0 l.levels x.was x.is → (1 ≤ l.levels) × Settling t.change.new.a hd ns c.in-Some.parent.0 (l.levels - 1) x.was x.is
 on c hd ns s =
     let t = c in
-    lift_on s _ t.change.ensures c.in-Edge.parent c.in-Edge.field-1 (sym c.ascend.ensures ∙ c.in-Edge.is)
+    lift_on s _ t.change.ensures c.in-Some.parent c.in-Some.field-0-1 (sym c.ascend.ensures ∙ c.in-Some.is)
 
-some : (c : In-Edge) → 1 ≤ c.loop-parent.levels
-some c = (on c _ _ (known (at-In-Edge c).At-loop-parent)).0
+some : (c : In-Some) → 1 ≤ c.loop-parent.levels
+some c = (on c _ _ (known (at-In-Some c).At-loop-parent)).0
 
 pub overflow_sub-levels : goal.overflow_sub-levels
 overflow_sub-levels c = omega (arith, some c)
