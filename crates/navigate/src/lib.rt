@@ -21,20 +21,14 @@ pub fn next_kv(a: &[u64], from: Handle) -> Option<Handle>
     requires { In a.now (λ s. EdgeAt s from) }
     ensures { (s : State) → Holds a.now s → (y : EdgeAt s from) → result ≡ stepped (next_kv y.way) }
 {
-    let mut node = from.node;
-    let mut height = from.height;
-    let mut at = from.at;
+    let mut edge = from;
     loop {
-        let n = len(a, node);
-        if at.0 < n {
-            return Some(Handle { node, height, at });
+        if edge.at.0 < len(a, edge.node) {
+            return Some(edge);
         }
-        let Some((p, i)) = ascend(a, node) else {
-            return None;
-        };
-        node = p;
-        at = i;
-        height += 1;
+        let (node, at) = ascend(a, edge.node)?;
+        let height = edge.height + 1;
+        edge = Handle { node, height, at };
     }
 }
 
@@ -43,24 +37,15 @@ pub fn next_back_kv(a: &[u64], from: Handle) -> Option<Handle>
     requires { In a.now (λ s. EdgeAt s from) }
     ensures { (s : State) → Holds a.now s → (y : EdgeAt s from) → result ≡ stepped (back_kv y.way) }
 {
-    let mut node = from.node;
-    let mut height = from.height;
-    let mut at = from.at;
+    let mut edge = from;
     loop {
-        let i = at.0;
-        if i > 0 {
-            return Some(Handle {
-                node,
-                height,
-                at: Place(i - 1),
-            });
+        if edge.at.0 > 0 {
+            let at = Place(edge.at.0 - 1);
+            return Some(Handle { at, ..edge });
         }
-        let Some((p, j)) = ascend(a, node) else {
-            return None;
-        };
-        node = p;
-        at = j;
-        height += 1;
+        let (node, at) = ascend(a, edge.node)?;
+        let height = edge.height + 1;
+        edge = Handle { node, height, at };
     }
 }
 
@@ -69,19 +54,16 @@ pub fn next_leaf_edge(a: &[u64], kv: Handle) -> Handle
     requires { In a.now (λ s. KvAt s kv) }
     ensures { (s : State) → Holds a.now s → (y : KvAt s kv) → result ≡ leaf_edge (next_edge y.ctx y.no y.left y.hole y.item y.right) }
 {
-    let p = kv.at;
     let mut node = kv.node;
-    let mut height = kv.height;
-    let mut i = p.0 + 1;
-    while height > 0 {
-        node = edge(a, node, Place(i));
-        i = 0;
-        height -= 1;
+    let mut at = Place(kv.at.0 + 1);
+    for _ in 0..kv.height {
+        node = edge(a, node, at);
+        at = Place(0);
     }
     Handle {
         node,
         height: 0,
-        at: Place(i),
+        at,
     }
 }
 
@@ -90,19 +72,16 @@ pub fn next_back_leaf_edge(a: &[u64], kv: Handle) -> Handle
     requires { In a.now (λ s. KvAt s kv) }
     ensures { (s : State) → Holds a.now s → (y : KvAt s kv) → result ≡ leaf_edge (back_edge y.ctx y.no y.left y.hole y.item y.right) }
 {
-    let p = kv.at;
     let mut node = kv.node;
-    let mut height = kv.height;
-    let mut i = p.0;
-    while height > 0 {
-        node = edge(a, node, Place(i));
-        i = len(a, node);
-        height -= 1;
+    let mut at = kv.at;
+    for _ in 0..kv.height {
+        node = edge(a, node, at);
+        at = Place(len(a, node));
     }
     Handle {
         node,
         height: 0,
-        at: Place(i),
+        at,
     }
 }
 
@@ -112,20 +91,16 @@ pub fn lower_leaf_edge(a: &[u64], start: SearchBound) -> Handle
     ensures { (s : State) → Holds a.now s → result ≡ leaf_edge (sink (starts start) s.whole.height top s.whole.root) }
 {
     let mut node = header::root(a);
-    let mut height = header::height(a);
     let mut bound = start;
-    loop {
-        let part = keys(a, node);
-        let (at, below) = find_lower_bound_index(part, bound);
-        if height == 0 {
-            return Handle {
-                node,
-                height: 0,
-                at,
-            };
-        }
+    for _ in 0..header::height(a) {
+        let (at, below) = find_lower_bound_index(keys(a, node), bound);
         bound = below;
         node = edge(a, node, at);
-        height -= 1;
+    }
+    let (at, _) = find_lower_bound_index(keys(a, node), bound);
+    Handle {
+        node,
+        height: 0,
+        at,
     }
 }

@@ -5,7 +5,6 @@ use native.Mathlib.Decide.{dec_lt}
 use native.Mathlib.Numerals.{sub-one, add-one}
 use native.Mathlib.Omega.{arith}
 use mathlib.Core.Path.{◌≡◌, refl, sym, ap, ap₂, ◌∙◌, subst}
-use mathlib.Core.Bool.{Bool, true, false}
 use mathlib.Core.List.{List, [], ◌∷◌, ◌++◌}
 use mathlib.Core.Option.{some}
 use lib.Dec.{lit<}
@@ -28,7 +27,7 @@ use Rattle.model.proofs.Standing.{At, stands, below_at, short_at}
 use Rattle.node.specs.declared.Place.{Place}
 use Rattle.search.specs.Results.{edged}
 use Rattle.search.proofs.Descents.{keys_are}
-use Rattle.ranks.specs.Picks.{EdgeIn, NodeIn, Here, Onward, PassingBy, Picking}
+use Rattle.ranks.specs.Picks.{EdgeIn, NodeIn, Here, Onward, Picking}
 
 -- ---- the first edges of a node
 
@@ -225,6 +224,10 @@ module _ (h : ℕ) (t : Tree (suc h)) (k i j : ℕ) (C : Coming h t k i j) where
   pub coming_down : j < length (flat h (hole_at t i)) → Onward h t k i j
   coming_down l = record { inside = C.inside; same = C.same ∙ nth_left j (flat h H) (flats (flat h) R) l; more = l }
 
+  -- behind the last pair it is below the last edge
+  pub coming_last : length t.rest ≤ i → Onward h t k i j
+  coming_last l = coming_down (omega (arith, C.more, length-append (flat h H) (flats (flat h) R), ap (λ (r : List (Item (Tree h))). length (flats (flat h) r)) (no_right i [] t.first t.rest l)))
+
   module _ (l : length (flat h (hole_at t i)) ≤ j) where
     pub past_edge : i < length t.rest
     past_edge = go (dec_lt i (length t.rest))
@@ -314,31 +317,16 @@ seeking_on o (suc h) z S i r x m e =
     let y = x h S.place S.more in
     rw (sub-one (suc h)) (record { place = below_at o S.place i m y.inside e; same = S.same ∙ y.same; more = y.more })
 
--- what the edges passed tell, by whether the pair is there
-here_is : (b : Bool) → b ≡ true → (h : ℕ) (t : Tree (suc h)) (k i j : ℕ) → PassingBy b h t k i j → Here h t k i
-here_is true e h t k i j x = x
-here_is false e h t k i j x = let z : ◌≡◌ {A = ℕ} 0 1 = cc in absurd (omega arith)
-
-onward_is : (b : Bool) → b ≡ false → (h : ℕ) (t : Tree (suc h)) (k i j : ℕ) → PassingBy b h t k i j → Onward h t k i j
-onward_is false e h t k i j x = x
-onward_is true e h t k i j x = let z : ◌≡◌ {A = ℕ} 0 1 = cc in absurd (omega arith)
-
-abbrev pub PassCall : State → ℕ → ℕ → Bool → ℕ → ℕ → Type 0
-PassCall s n j b i r = (g : ℕ) (p : At s n (suc g)) → j < length (flat (suc (suc g)) p.tree) → PassingBy b (suc g) p.tree j i r
-
+-- what a call of pass_edges tells at a node n that the rank j has come to
 module _ {s : State} {k n j : ℕ} where
   pub node_ready : (h : ℕ) → (h ≡ 0 → ⊥) → Seeking s k n h j → NodeIn s n j
   node_ready zero z S = absurd (z refl)
   node_ready (suc h) z S = record { height = h; place = S.place; more = S.more }
 
-  pub picked_inner : (h : ℕ) → (h ≡ 0 → ⊥) → Seeking s k n h j → (b : Bool) (i r : ℕ) → b ≡ true → PassCall s n j b i r → Picking s k (record { node = record { 0 = n }; height = h; at = record { 0 = i } })
-  picked_inner zero z S b i r e x = absurd (z refl)
-  picked_inner (suc h) z S b i r e x = picked_at S (here_is b e (suc h) S.place.tree j i r (x h S.place S.more))
+  pub picked_inner : (h : ℕ) → (h ≡ 0 → ⊥) → Seeking s k n h j → (i : ℕ) → ((g : ℕ) (p : At s n (suc g)) → j < length (flat (suc (suc g)) p.tree) → Here (suc g) p.tree j i) → Picking s k (record { node = record { 0 = n }; height = h; at = record { 0 = i } })
+  picked_inner zero z S i x = absurd (z refl)
+  picked_inner (suc h) z S i x = picked_at S (x h S.place S.more)
 
-  module _ {w : List ℕ} (o : Holds w s) where
-    pub inner_edge : (h : ℕ) → (h ≡ 0 → ⊥) → Seeking s k n h j → (b : Bool) (i r : ℕ) → b ≡ false → PassCall s n j b i r → (base n + 39 ≤ length w) × (i ≤ most)
-    inner_edge zero z S b i r e x = absurd (z refl)
-    inner_edge (suc h) z S b i r e x = edge_in o S.place i (onward_is b e (suc h) S.place.tree j i r (x h S.place S.more)).inside
-
-    pub seeking_down : (h : ℕ) → (h ≡ 0 → ⊥) → Seeking s k n h j → (b : Bool) (i r : ℕ) → b ≡ false → PassCall s n j b i r → (m : ℕ) → m ≡ word_at w n (edges_word + i) → Seeking s k m (h - 1) r
-    seeking_down h z S b i r e x m em = seeking_on o h z S i r (λ g p u. onward_is b e (suc g) p.tree j i r (x g p u)) m em
+  pub inner_edge : {w : List ℕ} (o : Holds w s) (h : ℕ) → (h ≡ 0 → ⊥) → Seeking s k n h j → (i r : ℕ) → ((g : ℕ) (p : At s n (suc g)) → j < length (flat (suc (suc g)) p.tree) → Onward (suc g) p.tree j i r) → (base n + 39 ≤ length w) × (i ≤ most)
+  inner_edge o zero z S i r x = absurd (z refl)
+  inner_edge o (suc h) z S i r x = edge_in o S.place i (x h S.place S.more).inside

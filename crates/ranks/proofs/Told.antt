@@ -3,12 +3,12 @@
 use Prim.Native.Nat.{ℕ, zero, ◌-◌, ◌≤◌}
 use native.Mathlib.Omega.{arith}
 use mathlib.Core.Path.{◌≡◌, refl, sym, ap, ap₂, ◌∙◌, subst}
-use mathlib.Core.Bool.{true, false}
-use mathlib.Core.Logic.{inl, inr}
+use mathlib.Core.Bool.{false}
+use mathlib.Core.Logic.{inr}
 use mathlib.Core.List.{List}
 use lib.Dec.{lit<}
 use lib.ListN.{length}
-use Rattle.model.specs.declared.Answer.TheVariants.{Done, Value, BadArena, BadRange, Absent}
+use Rattle.model.specs.declared.Answer.TheVariants.{Done, Value, Absent}
 use Rattle.model.specs.declared.Counted.{Counted}
 use Rattle.model.specs.declared.Picked.{Picked}
 use Rattle.model.specs.declared.Range.{Range}
@@ -20,7 +20,6 @@ use Rattle.model.specs.Search.{sink}
 use Rattle.model.specs.Range.{bad_range}
 use Rattle.model.specs.Map.{picked}
 use Rattle.model.specs.State.{State, list}
-use Rattle.model.specs.WellFormed.{WellFormed}
 use Rattle.model.specs.Promise.{Holds, Rank, Count, AtRank}
 use Rattle.model.proofs.Plug.{flat_plug}
 use Rattle.model.proofs.Walks.{start_parts}
@@ -65,16 +64,3 @@ module _ {w : List ℕ} {s : State} (o : Holds w s) where
 
   pub pair_told : (i : ℕ) {d : Handle} (p : Picking s i d) (k v : ℕ) → k ≡ p.kv.item.pair.key → v ≡ p.kv.item.pair.val → AtRank i w w (record { answer = Value v; key = k })
   pair_told i p k v ek ev = inr ((λ b. b (backward w s o)), record { state = s; holds = o; left = refl; said = ap₂ {C = Picked} (λ (x y : ℕ). record { answer = Value x; key = y }) ev ek ∙ ap picked (sym p.picks) })
-
-module _ {w : List ℕ} where
-  pub rank_bad : (k : ℕ) → (WellFormed w → ⊥) → Rank k w w (record { answer = BadArena; number = 0 })
-  rank_bad k f = inl (f, (refl, refl))
-
-  pub count_bad : (q : Range) → (WellFormed w → ⊥) → Count q w w (record { answer = BadArena; number = 0 })
-  count_bad q f = inl (f, (refl, refl))
-
-  pub count_refused : (q : Range) → WellFormed w → bad_range q ≡ true → Count q w w (record { answer = BadRange; number = 0 })
-  count_refused q f e = inr ((λ b. b f), inl (e, (refl, refl)))
-
-  pub at_bad : (i : ℕ) → (WellFormed w → ⊥) → AtRank i w w (record { answer = BadArena; key = 0 })
-  at_bad i f = inl (f, (refl, refl))

@@ -1,6 +1,6 @@
 -- A rank on its way down: which edge or pair of a node it falls on.
 -- Assumes nothing.
-use Rattle.std.specs.Prelude.{ℕ, suc, ◌≤◌, ◌<◌, ◌≡◌, Bool, true, false, List, [], ◌∷◌, length}
+use Rattle.std.specs.Prelude.{ℕ, suc, ◌≤◌, ◌<◌, ◌≡◌, List, [], ◌∷◌, length}
 use Rattle.std.proofs.Math.Option.{some}
 use Rattle.model.specs.Tree.{Item, Tree, flat}
 use Rattle.model.specs.Range.{open_at}
@@ -10,6 +10,7 @@ use Rattle.model.specs.Edges.{hole_at}
 use Rattle.search.specs.declared.Handle.{Handle}
 use Rattle.navigate.specs.Places.{KvAt}
 use Rattle.ranks.specs.declared.Lead.{Lead}
+use Rattle.ranks.specs.declared.Lead.TheVariants.{Kv, Edge}
 
 -- node n is internal, and i is one of its edges
 pub record EdgeIn (s : State) (n i : ℕ) : Type 0 where
@@ -37,12 +38,9 @@ pub record Onward (h : ℕ) (t : Tree (suc h)) (k i j : ℕ) : Type 0 where
   pub same : nth k (flat (suc h) t) ≡ nth j (flat h (hole_at t i))
   pub more : j < length (flat h (hole_at t i))
 
-abbrev pub PassingBy : Bool → (h : ℕ) → Tree (suc h) → ℕ → ℕ → ℕ → Type 0
-PassingBy true h t k i j = Here h t k i
-PassingBy false h t k i j = Onward h t k i j
-
 abbrev pub Passing : (h : ℕ) → Tree (suc h) → ℕ → Lead → Type 0
-Passing h t k r = PassingBy r.here h t k r.at.0 r.rest
+Passing h t k (Kv p) = Here h t k p.0
+Passing h t k (Edge p j) = Onward h t k p.0 j
 
 -- the place of the pair of rank k
 pub record Picking (s : State) (k : ℕ) (d : Handle) : Type 0 where

@@ -2,6 +2,7 @@
 #![tactic(auto)]
 
 ghost use Rattle.std.specs.Prelude.{◌≡◌, ℕ, suc, ◌≤◌, ◌<◌, [], length};
+ghost use Rattle.model.specs.Answer.{said_counted, said_picked};
 ghost use Rattle.model.specs.Layout.{header, pairs_word};
 ghost use Rattle.model.specs.Tree.{top, flat, lefts, before};
 ghost use Rattle.model.specs.Search.{sink};
@@ -14,18 +15,17 @@ ghost use Rattle.model.specs.Public as promise;
 ghost use Rattle.navigate.specs.Places.{In};
 ghost use Rattle.ranks.specs.Picks.{EdgeIn, NodeIn, Passing, Picking};
 
-use checker::well_formed;
+use checker::check;
 use listing::bad_range;
-use model::{Answer, Counted, Picked, Range, SearchBound};
-use node::{NodeNo, Place, edge, key, keys, total, val};
+use model::{Range, Refused, SearchBound};
+use node::{NodeNo, Place, edge, key, keys, len, total, val};
 use search::{Handle, find_lower_bound_index};
 
-// Where a rank leads in a node: to the pair there, or below the edge there, with the rank that is left.
+// Where a rank leads in a node: to a pair of it, or below an edge, with the rank that is left there.
 #[derive(Clone, Copy)]
-pub struct Lead {
-    pub at: Place,
-    pub rest: u64,
-    pub here: bool,
+pub enum Lead {
+    Kv(Place),
+    Edge(Place, u64),
 }
 
 // The pairs of a node, and below it, that are left of one of its edges.
@@ -33,15 +33,11 @@ fn left_of(a: &[u64], node: NodeNo, at: Place) -> u64
     requires { In a.now (λ s. EdgeIn s node.0 at.0) }
     ensures { (s : State) → Holds a.now s → (h : ℕ) (p : At s node.0 (suc h)) → at.0 ≤ length p.tree.rest → result ≡ length (lefts (flat (suc h)) (open_at at.0 [] p.tree.first p.tree.rest).left) }
 {
-    let end = at.0;
-    let mut t = end as u64;
-    let mut i: usize = 0;
-    while i < end {
-        let child = edge(a, node, Place(i));
-        t += total(a, child);
-        i += 1;
+    let mut sum = at.0 as u64;
+    for i in 0..at.0 {
+        sum += total(a, edge(a, node, Place(i)));
     }
-    t
+    sum
 }
 
 // How many pairs are before the first that a start bound admits. The child's bound replaces the bound on the way down.
@@ -50,20 +46,16 @@ pub fn passed(a: &[u64], start: SearchBound) -> u64
     ensures { (s : State) → Holds a.now s → result ≡ length (before (sink (starts start) s.whole.height top s.whole.root)) }
 {
     let mut node = header::root(a);
-    let mut height = header::height(a);
     let mut bound = start;
-    let mut sum: u64 = 0;
-    loop {
-        let part = keys(a, node);
-        let (at, below) = find_lower_bound_index(part, bound);
-        if height == 0 {
-            return sum + at.0 as u64;
-        }
+    let mut sum = 0;
+    for _ in 0..header::height(a) {
+        let (at, below) = find_lower_bound_index(keys(a, node), bound);
         sum += left_of(a, node, at);
         bound = below;
         node = edge(a, node, at);
-        height -= 1;
     }
+    let (at, _) = find_lower_bound_index(keys(a, node), bound);
+    sum + at.0 as u64
 }
 
 // The start bound that admits just what an end bound does not.
@@ -79,51 +71,24 @@ fn beyond(end: SearchBound) -> SearchBound
 }
 
 // How many keys are smaller than a key, which need not be there.
-pub fn rank(a: &[u64], key: u64) -> Counted
-    ensures { Promised (promise.rank key) a.now a.now tt result }
+pub fn rank(a: &[u64], key: u64) -> Result<u64, Refused>
+    ensures { Promised (promise.rank key) a.now a.now tt (said_counted result) }
 {
-    if !well_formed(a) {
-        return Counted {
-            answer: Answer::BadArena,
-            number: 0,
-        };
-    }
-    Counted {
-        answer: Answer::Done,
-        number: passed(a, SearchBound::Included(key)),
-    }
+    check(a)?;
+    Ok(passed(a, SearchBound::Included(key)))
 }
 
 // How many pairs a range has: those that its end admits, less those that its start leaves out.
-pub fn count(a: &[u64], range: Range) -> Counted
-    ensures { Promised (promise.count range) a.now a.now tt result }
+pub fn count(a: &[u64], range: Range) -> Result<u64, Refused>
+    ensures { Promised (promise.count range) a.now a.now tt (said_counted result) }
 {
-    if !well_formed(a) {
-        return Counted {
-            answer: Answer::BadArena,
-            number: 0,
-        };
-    }
+    check(a)?;
     if bad_range(range) {
-        return Counted {
-            answer: Answer::BadRange,
-            number: 0,
-        };
+        return Err(Refused::BadRange);
     }
-    let start = range.start;
-    let end = range.end;
-    let low = passed(a, start);
-    let high = passed(a, beyond(end));
-    if high < low {
-        return Counted {
-            answer: Answer::Done,
-            number: 0,
-        };
-    }
-    Counted {
-        answer: Answer::Done,
-        number: high - low,
-    }
+    let low = passed(a, range.start);
+    let high = passed(a, beyond(range.end));
+    Ok(high.saturating_sub(low))
 }
 
 // Passes the edges and pairs of a node until a rank falls on one of them.
@@ -131,29 +96,20 @@ fn pass_edges(a: &[u64], node: NodeNo, rank: u64) -> Lead
     requires { In a.now (λ s. NodeIn s node.0 rank) }
     ensures { (s : State) → Holds a.now s → (h : ℕ) (p : At s node.0 (suc h)) → rank < length (flat (suc (suc h)) p.tree) → Passing (suc h) p.tree rank result }
 {
+    let n = len(a, node);
     let mut rest = rank;
-    let mut i: usize = 0;
-    loop {
-        let child = edge(a, node, Place(i));
-        let c = total(a, child);
-        if rest < c {
-            return Lead {
-                at: Place(i),
-                rest,
-                here: false,
-            };
+    for i in 0..n {
+        let below = total(a, edge(a, node, Place(i)));
+        if rest < below {
+            return Lead::Edge(Place(i), rest);
         }
-        rest -= c;
+        rest -= below;
         if rest == 0 {
-            return Lead {
-                at: Place(i),
-                rest,
-                here: true,
-            };
+            return Lead::Kv(Place(i));
         }
         rest -= 1;
-        i += 1;
     }
+    Lead::Edge(Place(n), rest)
 }
 
 // The place of the pair at a rank.
@@ -162,48 +118,32 @@ fn pick(a: &[u64], rank: u64) -> Handle
     ensures { (s : State) → Holds a.now s → Picking s rank result }
 {
     let mut node = header::root(a);
-    let mut height = header::height(a);
     let mut rest = rank;
-    loop {
-        if height == 0 {
-            return Handle {
-                node,
-                height: 0,
-                at: Place(rest as usize),
-            };
+    for height in (1..=header::height(a)).rev() {
+        match pass_edges(a, node, rest) {
+            Lead::Kv(at) => return Handle { node, height, at },
+            Lead::Edge(at, below) => {
+                rest = below;
+                node = edge(a, node, at);
+            }
         }
-        let p = pass_edges(a, node, rest);
-        let at = p.at;
-        if p.here {
-            return Handle { node, height, at };
-        }
-        rest = p.rest;
-        node = edge(a, node, at);
-        height -= 1;
+    }
+    Handle {
+        node,
+        height: 0,
+        at: Place(rest as usize),
     }
 }
 
 // The pair that so many pairs are before.
-pub fn at(a: &[u64], rank: u64) -> Picked
-    ensures { Promised (promise.at rank) a.now a.now tt result }
+pub fn at(a: &[u64], rank: u64) -> Result<Option<(u64, u64)>, Refused>
+    ensures { Promised (promise.at rank) a.now a.now tt (said_picked result) }
 {
-    if !well_formed(a) {
-        return Picked {
-            answer: Answer::BadArena,
-            key: 0,
-        };
-    }
+    check(a)?;
     if rank >= header::pairs(a) {
-        return Picked {
-            answer: Answer::Absent,
-            key: 0,
-        };
+        return Ok(None);
     }
     let kv = pick(a, rank);
-    let node = kv.node;
-    let at = kv.at;
-    Picked {
-        answer: Answer::Value(val(a, node, at)),
-        key: key(a, node, at),
-    }
+    let k = key(a, kv.node, kv.at);
+    Ok(Some((k, val(a, kv.node, kv.at))))
 }

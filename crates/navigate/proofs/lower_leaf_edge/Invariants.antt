@@ -1,14 +1,12 @@
 -- Assumes nothing.
+use Rattle.std.proofs.Common.{◌-◌}
 use Rattle.model.specs.Tree.{top}
 use Rattle.model.specs.Search.{sink}
+use Rattle.model.specs.Range.{starts}
 use Rattle.model.specs.State.{State}
 use Rattle.model.specs.Promise.{Holds}
-use Rattle.model.proofs.Forks.{starts}
 use Rattle.navigate.proofs.Lowers.{Lowering}
 use Rattle.navigate.proofs.lower_leaf_edge.Given as goal
 
-abbrev pub invariant-loop-height : goal.invariant-loop-height
-invariant-loop-height l = (s : State) → Holds l.initial.a s → Lowering (sink (starts l.initial.bound) s.whole.height top s.whole.root) s l.bound l.node.0 l.height
-
-abbrev pub decreases-loop-height : goal.decreases-loop-height
-decreases-loop-height l = l.height
+abbrev pub invariant-loop : goal.invariant-loop
+invariant-loop l = (s : State) → Holds l.fn.a s → Lowering (sink (starts l.fn.start) s.whole.height top s.whole.root) s l.bound l.node.0 (l.end - l.counter)

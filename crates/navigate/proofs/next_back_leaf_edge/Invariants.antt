@@ -1,15 +1,11 @@
 -- Assumes nothing.
-use mathlib.Core.Bool.{false}
-use Prim.Native.Nat.{zero}
-use Rattle.model.specs.Tree.{Ctx}
+use Rattle.std.proofs.Common.{◌-◌, false}
+use Rattle.model.specs.Walk.{back_edge}
 use Rattle.model.specs.State.{State}
 use Rattle.model.specs.Promise.{Holds}
+use Rattle.navigate.specs.Places.{KvAt}
 use Rattle.navigate.proofs.Steps.{Dive}
 use Rattle.navigate.proofs.next_back_leaf_edge.Given as goal
 
--- every descent that has come to the edge where the loop begins, comes to the edge where it is
-abbrev pub invariant-loop-height : goal.invariant-loop-height
-invariant-loop-height l = (z : Ctx zero) (s : State) → Holds l.initial.a s → Dive (λ k. false) z s l.initial.node.0 l.initial.height l.initial.i → Dive (λ k. false) z s l.node.0 l.height l.i
-
-abbrev pub decreases-loop-height : goal.decreases-loop-height
-decreases-loop-height l = l.height
+abbrev pub invariant-loop : goal.invariant-loop
+invariant-loop l = (s : State) → Holds l.fn.a s → (y : KvAt s l.fn.kv) → Dive (λ k. false) (back_edge y.ctx y.no y.left y.hole y.item y.right) s l.node.0 (l.end - l.counter) l.at.0

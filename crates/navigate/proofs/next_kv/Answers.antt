@@ -1,6 +1,4 @@
-use mathlib.Core.Path.{refl, sym, ◌∙◌}
-use Prim.Native.Nat.{◌+◌, ◌≤◌}
-use native.Mathlib.Omega.{arith}
+use Rattle.std.proofs.Common.{◌+◌, ◌≤◌, refl, sym, ◌∙◌, arith}
 use Rattle.model.specs.Layout.{header, height_word}
 use Rattle.model.specs.Walk.{next_kv}
 use Rattle.model.specs.State.{State}
@@ -10,44 +8,41 @@ use Rattle.model.proofs.Backward.{backward}
 use Rattle.navigate.specs.Places.{EdgeAt}
 use Rattle.navigate.proofs.Steps.{Climb, climb_at, climb_start, climb_top, climb_root, climb_on, Nexts, next_here, next_above, next_ended}
 use Rattle.navigate.proofs.next_kv.Goals as goal
-use Rattle.navigate.proofs.next_kv.Goals.{In-Some}
+use Rattle.navigate.proofs.next_kv.Goals.{In_ok-node}
 
-pub loop-at-init : goal.loop-at-init
-loop-at-init c = let x = c.args in λ s o y. climb_start (Nexts (next_kv y.way) y.way) o.sound x.from y refl
+pub loop-edge-init : goal.loop-edge-init
+loop-edge-init c = λ s o y. climb_start (Nexts (next_kv y.way) y.way) o.sound c.args.from y refl
 
-pub len-n-requires : goal.len-n-requires
-len-n-requires c = let f = c.requires in (climb_at _ f.holds (c.loop-at.invariant f.state f.holds f.there)).within
+pub len-requires : goal.len-requires
+len-requires c = let f = c.requires in (climb_at _ f.holds (c.loop-edge.invariant f.state f.holds f.there)).within
 
-pub returns-then-at-n : goal.returns-then-at-n
-returns-then-at-n c =
-    let l = c.loop-at in
-    λ s o y. next_here (next_kv y.way) y.way o _ _ _ (l.invariant s o y) (omega (arith, c.if-at-n.true, c.len-n.ensures))
+pub returns-then-edge-len : goal.returns-then-edge-len
+returns-then-edge-len c = λ s o y. next_here (next_kv y.way) y.way o _ _ _ (c.loop-edge.invariant s o y) (omega (arith, c.if-edge-len.true, c.len.ensures))
 
 pub ascend-requires : goal.ascend-requires
-ascend-requires c = let f = c.requires in (climb_at _ f.holds (c.loop-at.invariant f.state f.holds f.there)).within
+ascend-requires c = let f = c.requires in (climb_at _ f.holds (c.loop-edge.invariant f.state f.holds f.there)).within
 
-pub returns-in_default : goal.returns-in_default
-returns-in_default c =
-    let l = c.loop-at in
-    λ s o y.
-    let m = next_above (next_kv y.way) y.way o _ _ _ (l.invariant s o y) (omega (arith, c.if-at-n.false, c.len-n.ensures)) in
-    next_ended (next_kv y.way) y.way o _ _ _ (l.invariant s o y) (climb_root _ o _ _ _ (l.invariant s o y) m (sym c.ascend.ensures ∙ c.in_default.is))
+pub returns-in_err-node : goal.returns-in_err-node
+returns-in_err-node c = λ s o y.
+    let l = c.loop-edge.invariant s o y in
+    let m = next_above (next_kv y.way) y.way o _ _ _ l (omega (arith, c.if-edge-len.false, c.len.ensures)) in
+    c.from_residual.ensures ∙ next_ended (next_kv y.way) y.way o _ _ _ l (climb_root _ o _ _ _ l m (sym c.in_err-node.ensures))
 
 -- the climb at the parent
-on : (c : In-Some) (s : State) → Holds c.args.a.now s → (y : EdgeAt s c.args.from) → Climb (Nexts (next_kv y.way) y.way) s c.in-Some.p.0 (c.loop-at.height + 1) c.in-Some.i.0
+on : (c : In_ok-node) (s : State) → Holds c.args.a.now s → (y : EdgeAt s c.args.from) → Climb (Nexts (next_kv y.way) y.way) s c.in_ok-node.node.0 (c.loop-edge.edge.height + 1) c.in_ok-node.at.0
 on c s o y =
-    let l = c.loop-at in
-    let m = next_above (next_kv y.way) y.way o _ _ _ (l.invariant s o y) (omega (arith, c.if-at-n.false, c.len-n.ensures)) in
-    climb_on _ o _ _ _ (l.invariant s o y) m c.in-Some.p c.in-Some.i (sym c.ascend.ensures ∙ c.in-Some.is)
+    let l = c.loop-edge.invariant s o y in
+    let m = next_above (next_kv y.way) y.way o _ _ _ l (omega (arith, c.if-edge-len.false, c.len.ensures)) in
+    climb_on _ o _ _ _ l m c.in_ok-node.node c.in_ok-node.at (sym c.in_ok-node.ensures)
 
-high : (c : In-Some) → c.loop-at.height + 1 ≤ header c.args.a.now height_word
+high : (c : In_ok-node) → c.loop-edge.edge.height + 1 ≤ header c.args.a.now height_word
 high c = let f = c.requires in climb_top _ f.holds (on c f.state f.holds f.there)
 
 pub overflow_add-height : goal.overflow_add-height
-overflow_add-height c = let f = c.requires in omega (arith, high c, low (backward _ _ f.holds))
+overflow_add-height c = let f = c.requires in omega (arith, high (goal.at.overflow_add-height c).In_ok-node, low (backward _ _ f.holds))
 
-pub loop-at-smaller : goal.loop-at-smaller
-loop-at-smaller c = omega (arith, high c)
+pub loop-edge-smaller : goal.loop-edge-smaller
+loop-edge-smaller c = omega (arith, high (goal.at.loop-edge-smaller c).In_ok-node)
 
-pub loop-at-preserved : goal.loop-at-preserved
-loop-at-preserved c = on c
+pub loop-edge-preserved : goal.loop-edge-preserved
+loop-edge-preserved c = on (goal.at.loop-edge-preserved c).In_ok-node

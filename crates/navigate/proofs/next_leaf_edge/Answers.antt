@@ -1,28 +1,23 @@
-use mathlib.Core.Bool.{true}
-use native.Mathlib.Omega.{arith}
+use Rattle.std.proofs.Common.{◌≡◌, ◌+◌, ◌-◌, true, arith}
 use Rattle.model.specs.Range.{keys_of}
 use Rattle.model.proofs.Forks.{stops_all}
-use Rattle.model.proofs.Standing.{stands, short_at}
-use Rattle.navigate.proofs.Pairs.{kv_at_node, kv_inside}
+use Rattle.navigate.proofs.Pairs.{kv_within}
 use Rattle.navigate.proofs.Steps.{dive_within, dive_ended, dive_on, dive_right}
 use Rattle.navigate.proofs.next_leaf_edge.Goals as goal
 
-pub overflow_add-i : goal.overflow_add-i
-overflow_add-i c =
-    let x = c in
-    let d = kv_at_node x.args.kv x.requires.there in
-    omega (arith, kv_inside x.args.kv x.requires.there, short_at (stands x.requires.holds d))
+pub overflow_add-at : goal.overflow_add-at
+overflow_add-at c = omega (arith, (kv_within c.args.kv c.requires.there c.requires.holds).1)
 
-pub loop-height-init : goal.loop-height-init
-loop-height-init c = λ z s o d. d
+pub loop-init : goal.loop-init
+loop-init c = λ s o y. let e : c.args.kv.height - 0 ≡ c.args.kv.height = omega arith in rw e (dive_right (λ k. true) c.args.kv y)
 
 pub edge-node-requires : goal.edge-node-requires
-edge-node-requires c =
-    let x = c in
-    dive_within _ _ x.requires.holds _ _ _ (c.loop-height.invariant _ x.requires.state x.requires.holds (dive_right (λ k. true) x.args.kv x.requires.there))
+edge-node-requires c = dive_within _ _ c.requires.holds _ _ _ (c.loop.invariant _ c.requires.holds c.requires.there)
 
-pub loop-height-preserved : goal.loop-height-preserved
-loop-height-preserved c = λ z s o d. dive_on _ z o _ _ _ (c.loop-height.invariant z s o d) (λ e. omega (arith, c.loop-height-test.true)) c.edge-node.result.0 c.edge-node.ensures 0 (λ p. (omega arith, stops_all (keys_of p.tree.rest)))
+pub loop-preserved : goal.loop-preserved
+loop-preserved c = λ s o y.
+    let e : c.args.kv.height - (c.loop.counter + 1) ≡ c.args.kv.height - c.loop.counter - 1 = omega arith in
+    rw e (dive_on _ _ o _ _ _ (c.loop.invariant s o y) (λ z. omega (arith, z, c.loop-test.true)) _ c.edge-node.ensures 0 (λ p. (omega arith, stops_all (keys_of p.tree.rest))))
 
 pub returns : goal.returns
-returns c = λ s o y. dive_ended _ _ _ _ _ (c.loop-height.invariant _ s o (dive_right (λ k. true) c.args.kv y)) (omega (arith, c.loop-height-test.false))
+returns c = λ s o y. dive_ended _ _ _ _ _ (c.loop.invariant s o y) (omega (arith, c.loop-test.false))

@@ -1,41 +1,24 @@
--- `ranks::left_of` meets its contract.
--- Assumes nothing.
-use Prim.Native.Nat.{ℕ, suc, ◌+◌}
-use native.Mathlib.Omega.{arith}
-use mathlib.Core.Path.{◌≡◌, sym, ap, ◌∙◌}
-use lib.ListN.{length}
+use Rattle.std.proofs.Common.{◌≡◌, ℕ, suc, ◌+◌, arith, sym, ap, ◌∙◌, length}
 use Rattle.ranks.proofs.Lefts.{left_sum, edge_in, child_at, sum_more, sum_few, left_is}
 use Rattle.ranks.proofs.left_of.Goals as goal
 
 pub loop-i-init : goal.loop-i-init
-loop-i-init c = (omega arith, λ s o h p l. omega arith)
+loop-i-init c = λ s o h p l. omega arith
 
-pub edge-child-requires : goal.edge-child-requires
-edge-child-requires c =
-    let l = c in
-    let q = l.requires in
-    edge_in q.holds q.there.place l.loop-i.i (omega (arith, q.there.inside, c.loop-i-test.true))
+pub edge-requires : goal.edge-requires
+edge-requires c = let q = c.requires in edge_in q.holds q.there.place c.loop-i.i (omega (arith, q.there.inside))
 
-pub total-t-requires : goal.total-t-requires
-total-t-requires c =
-    let l = c in
-    let q = l.requires in
-    (child_at q.holds q.there.place l.loop-i.i c.edge-child.result.0 (omega (arith, q.there.inside, c.loop-i-test.true)) c.edge-child.ensures).0
+pub total-sum-requires : goal.total-sum-requires
+total-sum-requires c = let q = c.requires in (child_at q.holds q.there.place c.loop-i.i c.edge.result.0 (omega (arith, q.there.inside)) c.edge.ensures).0
 
-pub overflow_add-t : goal.overflow_add-t
-overflow_add-t c =
-    let l = c in
-    let q = l.requires in
+pub overflow_add-sum : goal.overflow_add-sum
+overflow_add-sum c =
+    let q = c.requires in
     let e = q.there in
-    omega (arith, l.loop-i.invariant.1 q.state q.holds e.height e.place e.inside, c.total-t.ensures, sum_more q.holds e.place l.loop-i.i c.edge-child.result.0 (omega (arith, e.inside, c.loop-i-test.true)) c.edge-child.ensures, sum_few q.holds e.place (l.loop-i.i + 1), e.inside, (edge_in q.holds e.place (length e.place.tree.rest) (omega arith)).1)
+    omega (arith, c.loop-i.invariant q.state q.holds e.height e.place e.inside, c.total-sum.ensures, sum_more q.holds e.place c.loop-i.i c.edge.result.0 (omega (arith, e.inside)) c.edge.ensures, sum_few q.holds e.place (c.loop-i.i + 1), e.inside, (edge_in q.holds e.place (length e.place.tree.rest) (omega arith)).1)
 
 pub loop-i-preserved : goal.loop-i-preserved
-loop-i-preserved c =
-    let l = c in
-    (omega (arith, c.loop-i-test.true), λ s o h p u. omega (arith, l.loop-i.invariant.1 s o h p u, c.total-t.ensures, sum_more o p l.loop-i.i c.edge-child.result.0 (omega (arith, u, c.loop-i-test.true)) c.edge-child.ensures))
+loop-i-preserved c = λ s o h p u. omega (arith, c.loop-i.invariant s o h p u, c.total-sum.ensures, sum_more o p c.loop-i.i c.edge.result.0 (omega (arith, u)) c.edge.ensures)
 
 pub returns : goal.returns
-returns c =
-    let l = c in
-    let e : l.loop-i.i ≡ l.args.at.0 = omega (arith, l.loop-i.invariant.0, c.loop-i-test.false) in
-    λ s o h p u. l.loop-i.invariant.1 s o h p u ∙ ap (λ (i : ℕ). l.args.at.0 + left_sum (suc h) p.tree i) e ∙ sym (left_is (suc h) p.tree l.args.at.0 u)
+returns c = λ s o h p u. c.loop-i.invariant s o h p u ∙ ap (λ (i : ℕ). c.args.at.0 + left_sum (suc h) p.tree i) (let z : c.loop-i.i ≡ c.args.at.0 = omega arith in z) ∙ sym (left_is (suc h) p.tree c.args.at.0 u)
