@@ -19,20 +19,6 @@ fn count_leaf(a: &mut [u64], n: NodeNo)
     a[b + TOTAL] = t;
 }
 
-// Sets the counts of the leaves that a node's edges lead to.
-fn count_leaves(a: &mut [u64], n: NodeNo)
-    requires { Has a.old (λ hd ns. TreeIn ns n.0 1) }
-    ensures { (hd : List ℕ) (ns : List NodeVal) (t : TreeIn ns n.0 1) → Arena a.old hd ns → EdgesIn a.new hd ns 0 t.tree }
-{
-    let last = len(a, n);
-    let mut i: usize = 0;
-    while i <= last {
-        let child = edge(a, n, Place(i));
-        count_leaf(a, child);
-        i += 1;
-    }
-}
-
 // Sets the counts of a node and of all below it, which has so many levels below it.
 #[cycle(count_edges_count_node)]
 pub fn count_node(a: &mut [u64], n: NodeNo, below: usize)
@@ -41,11 +27,6 @@ pub fn count_node(a: &mut [u64], n: NodeNo, below: usize)
 {
     if below == 0 {
         count_leaf(a, n);
-        return;
-    }
-    if below == 1 {
-        count_leaves(a, n);
-        set_right(a, n);
         return;
     }
     count_edges(a, n, below - 1);
@@ -58,11 +39,9 @@ fn count_edges(a: &mut [u64], n: NodeNo, below: usize)
     requires { Has a.old (λ hd ns. TreeIn ns n.0 (suc below)) }
     ensures { (hd : List ℕ) (ns : List NodeVal) (t : TreeIn ns n.0 (suc below)) → Arena a.old hd ns → EdgesIn a.new hd ns below t.tree }
 {
-    let m = len(a, n);
-    let mut i: usize = 0;
-    while i <= m {
+    let last = len(a, n);
+    for i in 0..=last {
         let child = edge(a, n, Place(i));
         count_node(a, child, below);
-        i += 1;
     }
 }

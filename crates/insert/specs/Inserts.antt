@@ -10,6 +10,7 @@ use Rattle.model.specs.State.{State, Reply, list}
 use Rattle.model.specs.declared.Answer.{Answer}
 use Rattle.model.specs.declared.Answer.TheVariants.{Done, Value, Absent, NoRoom, BadArena, BadRange, BadOrder, BadSize, BadImage, StaleCursor, Spent, Older, NotRising}
 use Rattle.node.specs.declared.NodeNo.{NodeNo}
+use Rattle.node.specs.declared.Place.{Place}
 use Rattle.node.specs.declared.LeftOrRight.{LeftOrRight}
 use Rattle.node.specs.declared.LeftOrRight.TheVariants.{Left, Right}
 use Rattle.node.specs.Reading.{pair_of, ascent_of}
@@ -23,7 +24,7 @@ use Rattle.insert.specs.declared.Inserted.TheVariants.{Fit, Split}
 use Rattle.insert.specs.declared.Target.{Target}
 
 -- the edge in a half
-abbrev pub target_of : LeftOrRight → NodeNo → NodeNo → Target
+abbrev pub target_of : LeftOrRight Place → NodeNo → NodeNo → Target
 target_of (Left i) l r = record { node = l; at = i }
 target_of (Right i) l r = record { node = r; at = i }
 

@@ -36,7 +36,7 @@ pub struct Target {
 }
 
 // The edge where the new pair goes, in the left half or in the right one.
-fn insertion_edge(insertion: LeftOrRight, left: NodeNo, right: NodeNo) -> Target
+fn insertion_edge(insertion: LeftOrRight<Place>, left: NodeNo, right: NodeNo) -> Target
     ensures { result ≡ target_of insertion left right }
 {
     match insertion {

@@ -17,11 +17,9 @@ fn tally(a: &[u64], n: NodeNo, end: usize) -> u64
     ensures { (h : List ℕ) (ns : List NodeVal) → LinkReady ns n.0 end → Arena a.now h ns → result ≡ due ns n.0 }
 {
     let mut t = len(a, n) as u64;
-    let mut i: usize = 0;
-    while i < end {
+    for i in 0..end {
         let child = edge(a, n, Place(i));
         t += total(a, child);
-        i += 1;
     }
     t
 }
