@@ -23,7 +23,7 @@ ghost use Rattle.header.specs.Headers.{marked};
 ghost use Rattle.appending.specs.Runs.{Begun, BegunIn, Ended, EndedIn, Loads, LoadsIn};
 ghost use Rattle.appending.specs.Stocks.{Stocks, StocksIn, Pushed, PushedIn};
 
-use balance::bulk_steal_left;
+use balance::BalancingContext;
 use columns::{insert_word, set_len};
 use counting::count_node;
 use header::PAIRS;
@@ -168,7 +168,13 @@ fn stock_right_child(a: &mut [u64], node: NodeNo) -> NodeNo
     if k >= MIN_LEN {
         return right;
     }
-    bulk_steal_left(a, node, Place(at), left, right, MIN_LEN - k);
+    let context = BalancingContext {
+        parent: node,
+        at: Place(at),
+        left,
+        right,
+    };
+    context.bulk_steal_left(a, MIN_LEN - k);
     right
 }
 

@@ -1,4 +1,4 @@
--- `balance::do_merge` meets its contract: the stages, one after the other.
+-- `BalancingContext::do_merge` meets its contract: the stages, one after the other.
 -- Assumes nothing.
 use Prim.Native.Nat.{ℕ, ◌+◌}
 use mathlib.Core.Path.{◌≡◌, sym, ap, ◌∙◌}
@@ -15,11 +15,11 @@ use Rattle.internal.proofs.Edges.{edges_in, edge_removed, edges_put}
 use Rattle.balance.specs.Moves.{MergeReady, merged_bodies, merged_links, merge_nodes}
 use Rattle.balance.proofs.Shapes.{shape_here, edges_here}
 use Rattle.balance.proofs.Merging.{Leaves, s₁, s₂, s₃, s₄, to_s₁, to_s₂, to_s₃, to_s₄, to_bodies, ready₁, ready₂, ready₃, node₃, edges₃, node₄_l, node₄_r, edges₄_l, edges₄_r, links_fit, links_l, links_p, to_return}
-use Rattle.balance.proofs.do_merge.Goals as goal
-use Rattle.balance.proofs.do_merge.Goals.{After-correct_childrens_parent_links, After-correct_childrens_parent_links-2, After-edges_with-right_edges, After-insert_fit, After-move_first, After-move_first_pairs, After-remove-kv, After-remove_word, at-After-correct_childrens_parent_links, at-After-correct_childrens_parent_links-2, at-After-insert_fit, at-After-move_first, at-After-move_first_pairs, at-After-remove_word}
+use Rattle.balance.proofs.BalancingContext.do_merge.Goals as goal
+use Rattle.balance.proofs.BalancingContext.do_merge.Goals.{After-correct_childrens_parent_links, After-correct_childrens_parent_links-2, After-edges_with-right_edges, After-insert_fit, After-move_first, After-move_first_pairs, After-remove-kv, After-remove_word, at-After-correct_childrens_parent_links, at-After-correct_childrens_parent_links-2, at-After-insert_fit, at-After-move_first, at-After-move_first_pairs, at-After-remove_word}
 
 -- the numbers that were read
-counts : (c : After-edges_with-right_edges) → let x = c.args in (h : List ℕ) (ns : List NodeVal) (free : List ℕ) → MergeReady h ns free x.parent.0 x.at.0 x.left.0 x.right.0 → Arena x.a.now h ns → (c.len-old_parent_len.result ≡ length (nth ns x.parent.0).pairs) × (c.len-old_left_len.result ≡ length (nth ns x.left.0).pairs) × (c.len-right_len.result ≡ length (nth ns x.right.0).pairs) × (c.edges_with-left_edges.result ≡ length (nth ns x.left.0).edges) × (c.edges_with-right_edges.result ≡ length (nth ns x.right.0).edges) × (length (nth ns x.parent.0).edges ≡ length (nth ns x.parent.0).pairs + 1)
+counts : (c : After-edges_with-right_edges) → let x = c.args in (h : List ℕ) (ns : List NodeVal) (free : List ℕ) → MergeReady h ns free x.self.parent.0 x.self.at.0 x.self.left.0 x.self.right.0 → Arena x.a.now h ns → (c.len-old_parent_len.result ≡ length (nth ns x.self.parent.0).pairs) × (c.len-old_left_len.result ≡ length (nth ns x.self.left.0).pairs) × (c.len-right_len.result ≡ length (nth ns x.self.right.0).pairs) × (c.edges_with-left_edges.result ≡ length (nth ns x.self.left.0).edges) × (c.edges_with-right_edges.result ≡ length (nth ns x.self.right.0).edges) × (length (nth ns x.self.parent.0).edges ≡ length (nth ns x.self.parent.0).pairs + 1)
 counts c h ns free q a =
     let b = q.beside in (
       c.len-old_parent_len.ensures ∙ len_is a _ b.parent,
@@ -30,44 +30,44 @@ counts c h ns free q a =
       b.branches.edges_are,
     )
 
-st₁ : (c : After-remove-kv) → let x = c.args in (h : List ℕ) (ns : List NodeVal) (free : List ℕ) → MergeReady h ns free x.parent.0 x.at.0 x.left.0 x.right.0 → Arena x.a.now h ns → (pair_of c.remove-kv.result ≡ pair_at (nth ns x.parent.0).pairs x.at.0) × Arena c.remove-kv.new.a h (s₁ ns x.parent.0 x.at.0 x.left.0 x.right.0)
+st₁ : (c : After-remove-kv) → let x = c.args in (h : List ℕ) (ns : List NodeVal) (free : List ℕ) → MergeReady h ns free x.self.parent.0 x.self.at.0 x.self.left.0 x.self.right.0 → Arena x.a.now h ns → (pair_of c.remove-kv.result ≡ pair_at (nth ns x.self.parent.0).pairs x.self.at.0) × Arena c.remove-kv.new.a h (s₁ ns x.self.parent.0 x.self.at.0 x.self.left.0 x.self.right.0)
 st₁ c h ns free q a =
     let r = c.remove-kv.ensures h ns (ready₁ q) a in
     (r.0, rw (to_s₁ q) at r.1)
 
-st₂ : (c : After-insert_fit) → let x = c.args in Leaves x.a.now c.insert_fit.new.a x.parent.0 x.at.0 x.left.0 x.right.0 (λ h ns. s₂ ns x.parent.0 x.at.0 x.left.0 x.right.0)
+st₂ : (c : After-insert_fit) → let x = c.args in Leaves x.a.now c.insert_fit.new.a x.self.parent.0 x.self.at.0 x.self.left.0 x.self.right.0 (λ h ns. s₂ ns x.self.parent.0 x.self.at.0 x.self.left.0 x.self.right.0)
 st₂ c h ns free q a =
     let k = counts (at-After-insert_fit c).After-edges_with-right_edges h ns free q a in
     let s = st₁ (at-After-insert_fit c).After-remove-kv h ns free q a in
     rw (to_s₂ q _ _ k.1 s.0) at (c.insert_fit.ensures h _ (ready₂ q _ k.1) s.1)
 
-st₃ : (c : After-move_first_pairs) → let x = c.args in Leaves x.a.now c.move_first_pairs.new.a x.parent.0 x.at.0 x.left.0 x.right.0 (λ h ns. s₃ ns x.parent.0 x.at.0 x.left.0 x.right.0)
+st₃ : (c : After-move_first_pairs) → let x = c.args in Leaves x.a.now c.move_first_pairs.new.a x.self.parent.0 x.self.at.0 x.self.left.0 x.self.right.0 (λ h ns. s₃ ns x.self.parent.0 x.self.at.0 x.self.left.0 x.self.right.0)
 st₃ c h ns free q a =
     let k = counts (at-After-move_first_pairs c).After-edges_with-right_edges h ns free q a in
     rw (to_s₃ q _ k.2) at (c.move_first_pairs.ensures h _ (ready₃ q _ k.2) (st₂ (at-After-move_first_pairs c).After-insert_fit h ns free q a))
 
-st₄ : (c : After-remove_word) → let x = c.args in Leaves x.a.now c.remove_word.new.a x.parent.0 x.at.0 x.left.0 x.right.0 (λ h ns. s₄ ns x.parent.0 x.at.0 x.left.0 x.right.0)
+st₄ : (c : After-remove_word) → let x = c.args in Leaves x.a.now c.remove_word.new.a x.self.parent.0 x.self.at.0 x.self.left.0 x.self.right.0 (λ h ns. s₄ ns x.self.parent.0 x.self.at.0 x.self.left.0 x.self.right.0)
 st₄ c h ns free q a =
     let x = c.args in
     let k = counts (at-After-remove_word c).After-edges_with-right_edges h ns free q a in
-    let s = s₃ ns x.parent.0 x.at.0 x.left.0 x.right.0 in
+    let s = s₃ ns x.self.parent.0 x.self.at.0 x.self.left.0 x.self.right.0 in
     let e = ap length (edges₃ q) in
-    rw (to_s₄ q) at (edge_removed s x.parent.0 (node₃ q) _ (c.remove_word.ensures h _ edge_column (edges_in s x.parent.0 _ (node₃ q) (omega arith)) (stored (st₃ (at-After-remove_word c).After-move_first_pairs h ns free q a))).1)
+    rw (to_s₄ q) at (edge_removed s x.self.parent.0 (node₃ q) _ (c.remove_word.ensures h _ edge_column (edges_in s x.self.parent.0 _ (node₃ q) (omega arith)) (stored (st₃ (at-After-remove_word c).After-move_first_pairs h ns free q a))).1)
 
-st₅ : (c : After-move_first) → let x = c.args in Leaves x.a.now c.move_first.new.a x.parent.0 x.at.0 x.left.0 x.right.0 (λ h ns. merged_bodies ns x.parent.0 x.at.0 x.left.0 x.right.0)
+st₅ : (c : After-move_first) → let x = c.args in Leaves x.a.now c.move_first.new.a x.self.parent.0 x.self.at.0 x.self.left.0 x.self.right.0 (λ h ns. merged_bodies ns x.self.parent.0 x.self.at.0 x.self.left.0 x.self.right.0)
 st₅ c h ns free q a =
     let x = c.args in
     let k = counts (at-After-move_first c).After-edges_with-right_edges h ns free q a in
-    let s = s₄ ns x.parent.0 x.at.0 x.left.0 x.right.0 in
-    let m = c.move_first.ensures h _ edge_column (edges_in s x.left.0 _ (node₄_l q) (k.3 ∙ sym (ap length (edges₄_l q)))) (edges_in s x.right.0 _ (node₄_r q) (k.4 ∙ sym (ap length (edges₄_r q)))) (omega (arith, links_fit q)) (stored (st₄ (at-After-move_first c).After-remove_word h ns free q a)) in
-    rw (to_bodies q _ k.4) at (edges_put s x.left.0 x.right.0 (λ (t u : List ℕ). t ++ take c.edges_with-right_edges.result u) (λ (t u : List ℕ). drop c.edges_with-right_edges.result u) m)
+    let s = s₄ ns x.self.parent.0 x.self.at.0 x.self.left.0 x.self.right.0 in
+    let m = c.move_first.ensures h _ edge_column (edges_in s x.self.left.0 _ (node₄_l q) (k.3 ∙ sym (ap length (edges₄_l q)))) (edges_in s x.self.right.0 _ (node₄_r q) (k.4 ∙ sym (ap length (edges₄_r q)))) (omega (arith, links_fit q)) (stored (st₄ (at-After-move_first c).After-remove_word h ns free q a)) in
+    rw (to_bodies q _ k.4) at (edges_put s x.self.left.0 x.self.right.0 (λ (t u : List ℕ). t ++ take c.edges_with-right_edges.result u) (λ (t u : List ℕ). drop c.edges_with-right_edges.result u) m)
 
-st₆ : (c : After-correct_childrens_parent_links) → let x = c.args in Leaves x.a.now c.correct_childrens_parent_links.new.a x.parent.0 x.at.0 x.left.0 x.right.0 (λ h ns. relink_from (merged_bodies ns x.parent.0 x.at.0 x.left.0 x.right.0) x.left.0 (length (nth ns x.left.0).edges))
+st₆ : (c : After-correct_childrens_parent_links) → let x = c.args in Leaves x.a.now c.correct_childrens_parent_links.new.a x.self.parent.0 x.self.at.0 x.self.left.0 x.self.right.0 (λ h ns. relink_from (merged_bodies ns x.self.parent.0 x.self.at.0 x.self.left.0 x.self.right.0) x.self.left.0 (length (nth ns x.self.left.0).edges))
 st₆ c h ns free q a =
     let k = counts (at-After-correct_childrens_parent_links c).After-edges_with-right_edges h ns free q a in
     rw k.3 at (c.correct_childrens_parent_links.ensures h _ (links_l q _ (omega arith)) (st₅ (at-After-correct_childrens_parent_links c).After-move_first h ns free q a))
 
-st₇ : (c : After-correct_childrens_parent_links-2) → let x = c.args in Leaves x.a.now c.correct_childrens_parent_links-2.new.a x.parent.0 x.at.0 x.left.0 x.right.0 (λ h ns. merged_links ns x.parent.0 x.at.0 x.left.0 x.right.0)
+st₇ : (c : After-correct_childrens_parent_links-2) → let x = c.args in Leaves x.a.now c.correct_childrens_parent_links-2.new.a x.self.parent.0 x.self.at.0 x.self.left.0 x.self.right.0 (λ h ns. merged_links ns x.self.parent.0 x.self.at.0 x.self.left.0 x.self.right.0)
 st₇ c h ns free q a =
     let k = counts (at-After-correct_childrens_parent_links-2 c).After-edges_with-right_edges h ns free q a in
     c.correct_childrens_parent_links-2.ensures h _ (links_p q _ k.0) (st₆ (at-After-correct_childrens_parent_links-2 c).After-correct_childrens_parent_links h ns free q a)
