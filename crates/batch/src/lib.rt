@@ -49,7 +49,7 @@ fn run(a: &mut [u64], code: u64, key: u64, val: u64) -> Answer
         Ok(Request::Put(key, val)) => insert::put(a, key, val),
         Ok(Request::Get(key)) => look(a, key),
         Ok(Request::Delete(key)) => remove::delete(a, key),
-        Ok(Request::Reserve(key)) => reserve::reserve(a, key),
+        Ok(Request::Reserve(key)) => Answer::from(reserve::reserve(a, key)),
         Err(unknown) => Answer::from(unknown),
     }
 }

@@ -4,12 +4,12 @@
 #![tactic(auto)]
 
 ghost use Rattle.std.specs.Prelude.{◌≡◌, ◌+◌, ◌<◌, ◌≤◌, length, slice_index};
-ghost use Rattle.model.specs.Answer.{numbers_of};
+ghost use Rattle.model.specs.Answer.{numbers_of, said_done};
 ghost use Rattle.damage.specs.Kinds.{digit_of, wrongs};
 
 use checker::check;
 use format::format;
-use model::Answer;
+use model::Refused;
 use node::NONE;
 use std::io;
 use telling::say_line;
@@ -20,14 +20,15 @@ const LONG: usize = 205;
 // How many values each word is damaged with.
 const KINDS: usize = 14;
 
-fn digit(r: Answer) -> u8
-    ensures { result ≡ digit_of (numbers_of r).number }
+// Done, BadArena and BadSize by their numbers.
+fn digit(r: Result<(), Refused>) -> u8
+    ensures { result ≡ digit_of (numbers_of (said_done r)).number }
 {
-    match r.number() {
-        0 => b'0',
-        4 => b'4',
-        7 => b'7',
-        _ => b'?',
+    match r {
+        Ok(()) => b'0',
+        Err(Refused::BadArena) => b'4',
+        Err(Refused::BadSize) => b'7',
+        Err(_) => b'?',
     }
 }
 
@@ -48,7 +49,7 @@ fn damage(rt: &impl Print, a: &mut [u64], i: usize) -> io::Result<()>
     let mut line = [b'\n'; KINDS + 1];
     for (j, wrong) in wrongs(v).iter().enumerate() {
         a[i] = *wrong;
-        line[j] = digit(Answer::from(check(a)));
+        line[j] = digit(check(a));
     }
     a[i] = v;
     rt.write_all(&line)
@@ -83,7 +84,7 @@ fn leaves(a: &mut [u64; LONG]) {
 fn sizes(rt: &impl Print, a: &mut [u64; LONG]) -> io::Result<()> {
     for k in 0..=LONG {
         let f = digit(format(&mut a[..k]));
-        let c = digit(Answer::from(check(&a[..k])));
+        let c = digit(check(&a[..k]));
         rt.write_all(&[f, c, b'\n'])?;
     }
     Ok(())
@@ -99,7 +100,7 @@ fn every_word(rt: &impl Print, a: &mut [u64]) -> io::Result<()> {
 
 // The answer for the arena as it is.
 fn say(rt: &impl Print, a: &[u64]) -> io::Result<()> {
-    let c = digit(Answer::from(check(a)));
+    let c = digit(check(a));
     rt.write_all(&[c, b'\n'])
 }
 
@@ -156,10 +157,10 @@ fn tree(a: &mut [u64; LONG]) {
 // The two formatted arenas.
 fn formats(rt: &impl Print) -> io::Result<()> {
     let mut two = [7; 88];
-    format(&mut two);
+    let _ = format(&mut two);
     say_line(rt, &two)?;
     let mut one = [7; 49];
-    format(&mut one);
+    let _ = format(&mut one);
     every_word(rt, &mut one)
 }
 

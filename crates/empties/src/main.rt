@@ -26,7 +26,7 @@ fn tell(rt: &impl Print, mix: u64, a: &[u64; LONG]) -> io::Result<()> {
 fn fill(a: &mut [u64], pairs: u64)
     requires { pairs < 811 }
 {
-    format(a);
+    let _ = format(a);
     for key in 1..=pairs {
         put(a, key, key + 1000);
     }

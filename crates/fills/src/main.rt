@@ -45,7 +45,7 @@ fn puts(a: &mut [u64], first: u64, step: u64) -> u64
 fn fill(rt: &impl Print, a: &mut [u64], first: u64, step: u64) -> io::Result<()>
     requires { (first < 10007) × (step < 10007) }
 {
-    format(a);
+    let _ = format(a);
     say(rt, puts(a, first, step))?;
     tell(rt, put(a, first, 77))?;
     tell(rt, put(a, ROUND, 0))?;

@@ -148,11 +148,11 @@ fn all(rt: &impl Print, a: &[u64]) -> io::Result<()> {
 fn main(rt: HostRuntime) -> io::Result<()> {
     let mut a = [7; LONG];
     all(&rt, &a)?;
-    format(&mut a);
+    let _ = format(&mut a);
     all(&rt, &a)?;
     one_leaf(&mut a);
     all(&rt, &a)?;
-    format(&mut a);
+    let _ = format(&mut a);
     three_levels(&mut a);
     all(&rt, &a)
 }

@@ -172,6 +172,6 @@ fn run_all(rt: &(impl Input + Print), a: &mut [u64; LONG]) -> io::Result<()> {
 
 fn main(rt: HostRuntime) -> io::Result<()> {
     let mut a = [0; LONG];
-    format(&mut a);
+    let _ = format(&mut a);
     run_all(&rt, &mut a)
 }

@@ -42,7 +42,7 @@ fn last_line(rt: &impl Print, a: &[u64; LONG]) -> io::Result<()> {
 // Where a reading or a writing fails, the orders before it are done and were answered; nothing of the index outlives the call.
 pub fn serve(rt: &(impl Input + Print)) -> io::Result<()> {
     let mut a = [0; LONG];
-    format(&mut a);
+    let _ = format(&mut a);
     run_all(rt, &mut a)?;
     last_line(rt, &a)
 }
