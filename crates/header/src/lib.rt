@@ -5,7 +5,7 @@ ghost use Rattle.std.specs.Prelude.{◌≡◌, ◌+◌, ◌-◌, ◌<◌, ◌≤
 ghost use Rattle.model.specs.Layout.{header_size, header, format_word, count_word, offset_word, root_word, height_word, pairs_word, first_free_word, free_word, seen_word, mark_word};
 ghost use Rattle.header.specs.Headers.{Counted, raised};
 
-use node::{HEADER, NodeNo, WORDS, larger};
+use node::{HEADER, NodeNo, WORDS};
 
 // The places of its words.
 pub const FORMAT: usize = 0;
@@ -111,16 +111,14 @@ pub fn count_on(a: &mut [u64])
     requires { (header_size ≤ length a.old) × (header a.old pairs_word + 1 < 18446744073709551616) }
     ensures { a.new ≡ set a.old pairs_word (header a.old pairs_word + 1) }
 {
-    let more = a[PAIRS] + 1;
-    a[PAIRS] = more;
+    a[PAIRS] += 1;
 }
 
 pub fn count_off(a: &mut [u64])
     requires { (header_size ≤ length a.old) × (1 ≤ header a.old pairs_word) }
     ensures { a.new ≡ set a.old pairs_word (header a.old pairs_word - 1) }
 {
-    let left = a[PAIRS] - 1;
-    a[PAIRS] = left;
+    a[PAIRS] -= 1;
 }
 
 // The first free node, or NONE, and how many are free.
@@ -166,7 +164,6 @@ pub fn raise_mark(a: &mut [u64], key: u64)
     requires { header_size ≤ length a.old }
     ensures { a.new ≡ raised key a.old }
 {
-    let mark = larger(a[MARK], key);
-    a[MARK] = mark;
+    a[MARK] = a[MARK].max(key);
     a[SEEN] = 1;
 }

@@ -10,6 +10,7 @@ use Rattle.model.specs.State.{State, Reply, list}
 use Rattle.model.specs.declared.Answer.{Answer}
 use Rattle.model.specs.declared.Answer.TheVariants.{Done, Value}
 use Rattle.node.specs.declared.NodeNo.{NodeNo}
+use Rattle.node.specs.declared.Place.{Place}
 use Rattle.node.specs.declared.LeftOrRight.{LeftOrRight}
 use Rattle.node.specs.declared.LeftOrRight.TheVariants.{Left, Right}
 use Rattle.node.specs.Reading.{pair_of, ascent_of}
@@ -20,7 +21,6 @@ use Rattle.standing.specs.Heads.{Rest, rest_of, ClosedIn}
 use Rattle.growing.specs.Climbs.{Gap, Fitted, Risen, FittedRaw, RisenRaw, Climbing}
 use Rattle.model.specs.declared.Refused.{Refused}
 use Rattle.model.specs.Answer.{refused}
-use Rattle.node.specs.declared.Place.{Place}
 
 -- the edge in a half
 abbrev pub target_of : LeftOrRight Place → NodeNo → NodeNo → NodeNo × Place

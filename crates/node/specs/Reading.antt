@@ -9,7 +9,6 @@ use Rattle.node.specs.declared.NodeNo.{NodeNo}
 use Rattle.node.specs.declared.Place.{Place}
 use Rattle.node.specs.declared.Rising.{Rising}
 use Rattle.node.specs.declared.LeftOrRight.{LeftOrRight}
-use Rattle.node.specs.declared.Place.{Place}
 use Rattle.node.specs.declared.LeftOrRight.TheVariants.{Left, Right}
 
 -- the words of node n are among w

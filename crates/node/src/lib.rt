@@ -170,7 +170,7 @@ pub fn edge(a: &[u64], n: NodeNo, at: Place) -> NodeNo
     NodeNo(word(a, n, EDGES + at.0) as usize)
 }
 
-// Something at the left or at the right.
+// One of two sides, with what it is there.
 #[derive(Clone, Copy)]
 pub enum LeftOrRight<T> {
     Left(T),

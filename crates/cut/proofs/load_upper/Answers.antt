@@ -27,11 +27,11 @@ push_after-requires c =
       moving = upper_moves x.args.key p.holds p.upper d.result (d.ensures p.state p.holds) _ c.write_all.ensures;
     }
 
-pub bounds-a-8 : goal.bounds-a-8
-bounds-a-8 c = omega (arith, head_in c.requires.holds)
+pub seen-requires : goal.seen-requires
+seen-requires c = omega (arith, head_in c.requires.holds)
 
-pub bounds-a-9 : goal.bounds-a-9
-bounds-a-9 c = omega (arith, head_in c.requires.holds)
+pub mark-requires : goal.mark-requires
+mark-requires c = omega (arith, head_in c.requires.holds)
 
 pub finish-requires : goal.finish-requires
 finish-requires c =
@@ -50,4 +50,4 @@ returns c = λ s o u.
     let d = c.lower_leaf_edge-from in
     let r = rest_of (formatted x.nodes) in
     let ps = part_off x.key s in
-    c.finish.ensures r ps s.mark (c.push_after.ensures s o r ps (upper_moves x.key o u d.result (d.ensures s o) _ c.write_all.ensures)) (upper_tells x.key o u) (upper_sound x.key o u)
+    c.finish.ensures r ps s.mark (c.push_after.ensures s o r ps (upper_moves x.key o u d.result (d.ensures s o) _ c.write_all.ensures)) (upper_tells x.key o u _ _ c.seen.ensures c.mark.ensures) (upper_sound x.key o u)
