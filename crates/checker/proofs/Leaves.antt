@@ -11,13 +11,11 @@ use Rattle.model.specs.declared.Layout.{Layout}
 use Rattle.model.specs.Layout.{keys_word, Counts, total_word, word_at_by}
 use Rattle.model.specs.WellFormed.{Reached, ZerosBy, length_at_by, key_at_by, reach_by, keys_in_by}
 use Rattle.model.specs.Shape.{OwnBy, ShapeBy}
-use Rattle.inspect.specs.declared.Last.{Last}
-use Rattle.inspect.specs.declared.Last.TheVariants.{After}
+use Rattle.std.proofs.Common.{Option, Some}
 use Rattle.inspect.specs.Tests.{Above, ups, rise, steps}
 use Rattle.inspect.proofs.Ups.{ups_few, ups_flat, rise_few, rise_is, rise_not}
 use Rattle.inspect.proofs.Decisions.{apart}
 use Rattle.checker.specs.declared.Walk.{Walk}
-use Rattle.checker.specs.declared.Checked.TheVariants.{Good}
 use Rattle.checker.specs.Walks.{Rises, last_of, Passes, Said, node_task}
 use Rattle.checker.proofs.Order.{rises_left, rises_right, rises_both, last_append}
 use Rattle.checker.proofs.Tasks.{walk_is}
@@ -31,22 +29,22 @@ row_long : (k : ℕ → ℕ) (m : ℕ) → length (row k m) ≡ m
 row_long k zero = refl
 row_long k (suc m) = omega (arith, length-append (row k m) (k m ∷ []), row_long k m)
 
-row_last : (k : ℕ → ℕ) (l : Last) (m : ℕ) → last_of l (row k (suc m)) ≡ After (k m)
+row_last : (k : ℕ → ℕ) (l : Option ℕ) (m : ℕ) → last_of l (row k (suc m)) ≡ Some (k m)
 unfolding last_of
 row_last k l m = last_append l (row k m) (k m ∷ [])
 
 rise_below : (x y : ℕ) → rise x y ≡ 1 → x < y
 rise_below x y e = apart x y (λ l. l) (λ l. absurd (omega (arith, e, rise_not x y l)))
 
-row_ups : (k : ℕ → ℕ) (l : Last) (m : ℕ) → Rises l (row k (suc m)) → Above l (k 0) × (ups k m ≡ m)
+row_ups : (k : ℕ → ℕ) (l : Option ℕ) (m : ℕ) → Rises l (row k (suc m)) → Above l (k 0) × (ups k m ≡ m)
 unfolding Rises ups
 row_ups k l zero r = (r.0, refl)
 row_ups k l (suc m) r =
     let a = row_ups k l m (rises_left l (row k (suc m)) (k (suc m) ∷ []) r) in
-    let b : Rises (After (k m)) (k (suc m) ∷ []) = subst (λ x. Rises x (k (suc m) ∷ [])) (row_last k l m) (rises_right l (row k (suc m)) (k (suc m) ∷ []) r) in
+    let b : Rises (Some (k m)) (k (suc m) ∷ []) = subst (λ x. Rises x (k (suc m) ∷ [])) (row_last k l m) (rises_right l (row k (suc m)) (k (suc m) ∷ []) r) in
     (a.0, omega (arith, a.1, rise_is (k m) (k (suc m)) b.0))
 
-ups_row : (k : ℕ → ℕ) (l : Last) (m : ℕ) → Above l (k 0) → ups k m ≡ m → Rises l (row k (suc m))
+ups_row : (k : ℕ → ℕ) (l : Option ℕ) (m : ℕ) → Above l (k 0) → ups k m ≡ m → Rises l (row k (suc m))
 unfolding Rises ups
 ups_row k l zero a e = (a, tt)
 ups_row k l (suc m) a e =
@@ -88,15 +86,15 @@ module _ (fm : Layout) (w : List ℕ) (count fewest n p e : ℕ) (u : Walk) (som
   rises_at zero q o t = absurd (omega (arith, q, o.enough, some))
   rises_at (suc m) q o t = ups_row (key_at_by fm w n) u.last m t.above (omega (arith, q, ups_used m q o, t.ascents))
 
-  last_at : (len : ℕ) → 1 ≤ len → last_of u.last (row (key_at_by fm w n) len) ≡ After (key_at_by fm w n (len - 1))
+  last_at : (len : ℕ) → 1 ≤ len → last_of u.last (row (key_at_by fm w n) len) ≡ Some (key_at_by fm w n (len - 1))
   last_at zero l = absurd (omega arith)
   last_at (suc m) l = rw (sub-one (suc m)) (row_last (key_at_by fm w n) u.last m)
 
   pub leaf_good : (h len x : ℕ) → h ≡ 0 → len ≡ length_at_by fm w n → x ≡ key_at_by fm w n (len - 1) → 1 ≤ u.nodes → OwnBy fm w count (leaf_at h) → Passed fm w n u
-      → Said (node_task fm w count (leaf_at h)) u (Good (record { nodes = u.nodes - 1; pairs = u.pairs - len; last = After x }))
+      → Said (node_task fm w count (leaf_at h)) u (Some (record { nodes = u.nodes - 1; pairs = u.pairs - len; last = Some x }))
   unfolding ShapeBy reach_by keys_in_by
   leaf_good zero len x z d y s o t = (
     record { holds = (o, λ c. t.told c ∙ sym (row_long (key_at_by fm w n) (length_at_by fm w n))); rises = rises_at (length_at_by fm w n) refl o t; pairs = omega (arith, row_long (key_at_by fm w n) (length_at_by fm w n), t.pairs); nodes = omega (arith, s) },
-    walk_is (omega arith) (omega (arith, d, row_long (key_at_by fm w n) (length_at_by fm w n))) (ap After (y ∙ ap (λ i. key_at_by fm w n (i - 1)) d) ∙ sym (last_at (length_at_by fm w n) (omega (arith, some, o.enough)))),
+    walk_is (omega arith) (omega (arith, d, row_long (key_at_by fm w n) (length_at_by fm w n))) (ap Some (y ∙ ap (λ i. key_at_by fm w n (i - 1)) d) ∙ sym (last_at (length_at_by fm w n) (omega (arith, some, o.enough)))),
   )
   leaf_good (suc h) len x z d y s o t = absurd (omega arith)

@@ -3,4 +3,3 @@ pub mod Tasks
 pub mod Nodes
 pub mod Whole
 pub mod Leaves
-pub mod Formats

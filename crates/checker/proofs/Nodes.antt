@@ -1,26 +1,24 @@
 -- Nodes as tasks: a node is its own words and then its edges, a level lower.
 -- Assumes nothing.
+use Rattle.std.proofs.Common.{Option, None, Some}
 use Prim.Native.Nat.{ℕ, zero, suc, ◌+◌, ◌-◌, ◌≤◌, ◌<◌}
 use native.Mathlib.Numerals.{sub-one}
 use native.Mathlib.Omega.{arith}
 use native.Mathlib.Nat.{eq-or-lt_of_le}
-use mathlib.Core.Path.{◌≡◌, refl, sym, ap, subst, ◌∙◌}
+use mathlib.Core.Path.{◌≡◌, refl, sym, ap, ◌∙◌}
 use mathlib.Core.Logic.{⊎_elim}
 use mathlib.Core.List.{List, [], append-nil}
 use lib.ListN.{length, length-append}
 use Rattle.model.specs.Lists.{join_to, mix_to}
 use Rattle.model.specs.declared.Layout.{Layout}
-use Rattle.model.specs.declared.Layout.TheVariants.{Format1, Format2}
-use Rattle.model.specs.Layout.{least, Counts, total_word, word_at_by}
-use Rattle.model.specs.WellFormed.{Reached, length_at_by, edge_at_by, key_at_by, reach_by, keys_in_by, root_fewest}
+use Rattle.model.specs.Layout.{least, total_word, word_at_by}
+use Rattle.model.specs.WellFormed.{Reached, length_at_by, edge_at_by, key_at_by, reach_by, keys_in_by}
 use Rattle.model.proofs.Lists.{join_more}
 use Rattle.model.specs.Shape.{OwnBy, ShapeBy}
 use Rattle.inspect.specs.Tests.{LeadsBy}
 use Rattle.checker.specs.declared.Walk.{Walk}
-use Rattle.checker.specs.declared.Checked.{Checked}
-use Rattle.checker.specs.declared.Checked.TheVariants.{Bad, Good}
-use Rattle.checker.specs.Walks.{Task, Rises, last_of, Said, CountedBy, key_task, keys_task, gap, child_of, node_task, children, nodes_to, edges_task}
-use Rattle.checker.proofs.Tasks.{both, counted_said, walk_is, gap_said, then_said, same_said, steps, steps_none, edge_said, key_said, edge_refused, key_refused}
+use Rattle.checker.specs.Walks.{Task, Rises, last_of, Said, key_task, keys_task, gap, child_of, node_task, children, nodes_to, edges_task}
+use Rattle.checker.proofs.Tasks.{both, counted_said, Told, walk_is, gap_said, then_said, same_said, steps, steps_none, edge_said, key_said, edge_refused, key_refused}
 
 pub some_nodes : (fm : Layout) (w : List ℕ) (count : ℕ) (r : Reached) → 1 ≤ (node_task fm w count r).nodes
 unfolding reach_by
@@ -52,16 +50,16 @@ module _ (fm : Layout) (w : List ℕ) (n : ℕ) where
   flat : (i : ℕ) → 0 ≡ 0 + gap.nodes
   flat i = omega arith
 
-  pub leaf_none : (u : Walk) → Said (leaf_steps 0) u (Good u)
+  pub leaf_none : (u : Walk) → Said (leaf_steps 0) u (Some u)
   leaf_none u = steps_none (λ i. gap) (key_at_by fm w n) (λ i. 0) flat u refl
 
-  pub leaf_gap : (i : ℕ) (u v : Walk) → Said (leaf_steps i) u (Good v) → Said (keys_task fm w n i) u (Good v)
-  leaf_gap i u v p = edge_said (λ i. gap) (key_at_by fm w n) (λ i. 0) flat i u v (Good v) p (gap_said v)
+  pub leaf_gap : (i : ℕ) (u v : Walk) → Said (leaf_steps i) u (Some v) → Said (keys_task fm w n i) u (Some v)
+  leaf_gap i u v p = edge_said (λ i. gap) (key_at_by fm w n) (λ i. 0) flat i u v (Some v) p (gap_said v)
 
-  pub leaf_key : (i x : ℕ) (u v : Walk) (q : Checked) → x ≡ key_at_by fm w n i → Said (leaf_steps i) u (Good v) → Said (key_task x) v q → Said (leaf_steps (i + 1)) u q
+  pub leaf_key : (i x : ℕ) (u v : Walk) (q : Option Walk) → x ≡ key_at_by fm w n i → Said (leaf_steps i) u (Some v) → Said (key_task x) v q → Said (leaf_steps (i + 1)) u q
   leaf_key i x u v q e p s = key_said (λ i. gap) (key_at_by fm w n) (λ i. 0) flat i x u v q e (leaf_gap i u v p) s
 
-  pub leaf_refused : (i m : ℕ) (u : Walk) → i < m → Said (leaf_steps (i + 1)) u Bad → Said (keys_task fm w n m) u Bad
+  pub leaf_refused : (i m : ℕ) (u : Walk) → i < m → Said (leaf_steps (i + 1)) u None → Said (keys_task fm w n m) u None
   leaf_refused = key_refused (λ i. gap) (key_at_by fm w n) (λ i. 0) flat
 
 -- ---- the edges of an internal node
@@ -76,22 +74,22 @@ module _ (fm : Layout) (w : List ℕ) (count h n : ℕ) where
       let R : ℕ → List Reached = λ j. reach_by fm w h least (edge_at_by fm w n j) n j in
       ap length (join_more R i) ∙ length-append (join_to R i) (R i)
 
-  pub edges_none : (u : Walk) → Said (edge_steps 0) u (Good u)
+  pub edges_none : (u : Walk) → Said (edge_steps 0) u (Some u)
   edges_none u = steps_none (children fm w count h n) (key_at_by fm w n) (nodes_to fm w h n) more u refl
 
-  pub edge_next : (i : ℕ) (r : Reached) (u v : Walk) (q : Checked) → r ≡ child_of fm w h n i → Said (edge_steps i) u (Good v) → Said (node_task fm w count r) v q → Said (edges_task fm w count h n i) u q
+  pub edge_next : (i : ℕ) (r : Reached) (u v : Walk) (q : Option Walk) → r ≡ child_of fm w h n i → Said (edge_steps i) u (Some v) → Said (node_task fm w count r) v q → Said (edges_task fm w count h n i) u q
   edge_next i r u v q e p s = edge_said (children fm w count h n) (key_at_by fm w n) (nodes_to fm w h n) more i u v q p (rw e at s)
 
-  pub key_next : (i x : ℕ) (u v : Walk) (q : Checked) → x ≡ key_at_by fm w n i → Said (edges_task fm w count h n i) u (Good v) → Said (key_task x) v q → Said (edge_steps (i + 1)) u q
+  pub key_next : (i x : ℕ) (u v : Walk) (q : Option Walk) → x ≡ key_at_by fm w n i → Said (edges_task fm w count h n i) u (Some v) → Said (key_task x) v q → Said (edge_steps (i + 1)) u q
   key_next = key_said (children fm w count h n) (key_at_by fm w n) (nodes_to fm w h n) more
 
-  pub edge_stop : (i m : ℕ) (u : Walk) → i < m → Said (edges_task fm w count h n i) u Bad → Said (edges_task fm w count h n m) u Bad
+  pub edge_stop : (i m : ℕ) (u : Walk) → i < m → Said (edges_task fm w count h n i) u None → Said (edges_task fm w count h n m) u None
   edge_stop = edge_refused (children fm w count h n) (key_at_by fm w n) (nodes_to fm w h n) more
 
-  pub edge_stop_to : (i m : ℕ) (u : Walk) → i ≤ m → Said (edges_task fm w count h n i) u Bad → Said (edges_task fm w count h n m) u Bad
+  pub edge_stop_to : (i m : ℕ) (u : Walk) → i ≤ m → Said (edges_task fm w count h n i) u None → Said (edges_task fm w count h n m) u None
   edge_stop_to i m u l q = ⊎_elim (λ e. rw e at q) (λ v. edge_stop i m u v q) (eq-or-lt_of_le l)
 
-  pub key_stop : (i m : ℕ) (u : Walk) → i < m → Said (edge_steps (i + 1)) u Bad → Said (edges_task fm w count h n m) u Bad
+  pub key_stop : (i m : ℕ) (u : Walk) → i < m → Said (edge_steps (i + 1)) u None → Said (edges_task fm w count h n m) u None
   key_stop = key_refused (children fm w count h n) (key_at_by fm w n) (nodes_to fm w h n) more
 
 -- ---- a node: its own words, then its edges
@@ -100,33 +98,24 @@ module _ (fm : Layout) (w : List ℕ) (count h n : ℕ) where
 abbrev pub own_task : (fm : Layout) → List ℕ → ℕ → Reached → Task
 own_task fm w count r = record { holds = OwnBy fm w count r; keys = []; nodes = 1 }
 
-pub own_said : (fm : Layout) (w : List ℕ) (count : ℕ) (r : Reached) (u : Walk) → OwnBy fm w count r → 1 ≤ u.nodes → Said (own_task fm w count r) u (Good (record { nodes = u.nodes - 1; pairs = u.pairs; last = u.last }))
+pub own_said : (fm : Layout) (w : List ℕ) (count : ℕ) (r : Reached) (u : Walk) → OwnBy fm w count r → 1 ≤ u.nodes → Said (own_task fm w count r) u (Some (record { nodes = u.nodes - 1; pairs = u.pairs; last = u.last }))
 unfolding Rises last_of
 own_said fm w count r u o l = (record { holds = o; rises = tt; pairs = omega arith; nodes = l }, walk_is refl (omega arith) refl)
 
--- the count of a node is compared in format 2 only
-fewer : (fm : Layout) (t : Task) (x : ℕ) (u : Walk) (d q : Checked) → Said t u d → CountedBy fm d u.pairs x q → Said (record { holds = t.holds × (Counts fm → x ≡ length t.keys); keys = t.keys; nodes = t.nodes }) u q
-fewer Format1 t x u d q s c = same_said (record { to = λ h. (h, λ a. absurd a); from = λ h. h.0; keys = refl; nodes = refl }) u q (subst (Said t u) (sym c) s)
-fewer Format2 t x u d q s c = same_said (record { to = λ h. (h.0, λ a. h.1); from = λ h. (h.0, h.1 tt); keys = refl; nodes = refl }) u q (counted_said t x u d q s c)
-
-module _ (fm : Layout) (w : List ℕ) (count fewest n p e x : ℕ) (u v : Walk) (d q : Checked) where
-  pub leaf_said : (h m : ℕ) → h ≡ 0 → m ≡ length_at_by fm w n → x ≡ word_at_by fm w n total_word → Said (own_task fm w count (record { below = h; fewest = fewest; node = n; parent = p; place = e })) u (Good v) → Said (keys_task fm w n m) v d
-      → CountedBy fm d u.pairs x q → Said (node_task fm w count (record { below = h; fewest = fewest; node = n; parent = p; place = e })) u q
+module _ (fm : Layout) (w : List ℕ) (count fewest n p e x : ℕ) (u v : Walk) (d q : Option Walk) where
+  pub leaf_said : (h m : ℕ) → h ≡ 0 → m ≡ length_at_by fm w n → x ≡ word_at_by fm w n total_word → Said (own_task fm w count (record { below = h; fewest = fewest; node = n; parent = p; place = e })) u (Some v) → Said (keys_task fm w n m) v d
+      → Told fm x u d q → Said (node_task fm w count (record { below = h; fewest = fewest; node = n; parent = p; place = e })) u q
   unfolding ShapeBy reach_by keys_in_by
   leaf_said zero m z k t o s c =
       let keys = append-nil _ ∙ ap (mix_to (λ i. []) (key_at_by fm w n)) k in
       same_said (record { to = λ h. (h.0.0, λ a. sym t ∙ h.1 a ∙ ap length keys); from = λ h. ((h.0, λ i l. tt), λ a. t ∙ h.1 a ∙ sym (ap length keys)); keys = keys; nodes = omega arith }) u q
-      (fewer fm (both (own_task fm w count _) (keys_task fm w n m)) x u d q (then_said (own_task fm w count _) (keys_task fm w n m) u v d o s) c)
+      (counted_said fm (both (own_task fm w count _) (keys_task fm w n m)) x u d q (then_said (own_task fm w count _) (keys_task fm w n m) u v d o s) c)
   leaf_said (suc h) m z k t o s c = absurd (omega arith)
 
-  pub inner_said : (h m : ℕ) → (h ≡ 0 → ⊥) → m ≡ length_at_by fm w n → x ≡ word_at_by fm w n total_word → Said (own_task fm w count (record { below = h; fewest = fewest; node = n; parent = p; place = e })) u (Good v) → Said (edges_task fm w count (h - 1) n m) v d
-      → CountedBy fm d u.pairs x q → Said (node_task fm w count (record { below = h; fewest = fewest; node = n; parent = p; place = e })) u q
+  pub inner_said : (h m : ℕ) → (h ≡ 0 → ⊥) → m ≡ length_at_by fm w n → x ≡ word_at_by fm w n total_word → Said (own_task fm w count (record { below = h; fewest = fewest; node = n; parent = p; place = e })) u (Some v) → Said (edges_task fm w count (h - 1) n m) v d
+      → Told fm x u d q → Said (node_task fm w count (record { below = h; fewest = fewest; node = n; parent = p; place = e })) u q
   unfolding ShapeBy reach_by keys_in_by
   inner_said zero m z k t o s c = absurd (z refl)
   inner_said (suc h) m z k t o s c =
       same_said (record { to = λ y. (y.0.0, y.0.1, λ a. sym t ∙ y.1 a); from = λ y. ((y.0, y.1), λ a. t ∙ y.2 a); keys = refl; nodes = omega arith }) u q
-      (fewer fm (both (own_task fm w count _) (edges_task fm w count h n (length_at_by fm w n))) x u d q (then_said (own_task fm w count _) (edges_task fm w count h n (length_at_by fm w n)) u v d o (rw (k, sub-one (suc h)) at s)) c)
-
-pub fewest_inner : (h : ℕ) → (h ≡ 0 → ⊥) → 1 ≡ root_fewest h
-fewest_inner zero z = absurd (z refl)
-fewest_inner (suc h) z = refl
+      (counted_said fm (both (own_task fm w count _) (edges_task fm w count h n (length_at_by fm w n))) x u d q (then_said (own_task fm w count _) (edges_task fm w count h n (length_at_by fm w n)) u v d o (rw (k, sub-one (suc h)) at s)) c)

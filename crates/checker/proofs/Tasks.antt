@@ -1,5 +1,6 @@
 -- Tasks in turn: one after another, one that begins another, and the edges of a node.
 -- Assumes nothing.
+use Rattle.std.proofs.Common.{Option, None, Some}
 use Prim.Native.Nat.{ℕ, zero, suc, ◌+◌, ◌-◌, ◌≤◌, ◌<◌}
 use native.Mathlib.Nat.{eq-or-lt_of_le, le_of_suc-le-suc, not-suc-le-zero}
 use native.Mathlib.Numerals.{add-one}
@@ -10,16 +11,16 @@ use mathlib.Core.Logic.{⊎_elim}
 use mathlib.Core.List.{List, [], ◌∷◌, ◌++◌, append_assoc, append-nil}
 use lib.ListN.{length, length-append}
 use Rattle.model.specs.Lists.{mix_to}
+use Rattle.model.specs.declared.Layout.{Layout}
+use Rattle.model.specs.Layout.{Counts}
 use Rattle.checker.specs.declared.Walk.{Walk}
-use Rattle.checker.specs.declared.Checked.{Checked}
-use Rattle.checker.specs.declared.Checked.TheVariants.{Bad, Good}
-use Rattle.checker.specs.Walks.{Task, Rises, last_of, Passes, after, Said, Counted, key_task, gap, up_to}
+use Rattle.checker.specs.Walks.{Task, Rises, last_of, Passes, after, Said, Tells, key_task, gap, up_to}
 use Rattle.checker.proofs.Order.{rises_left, rises_right, rises_both, last_append}
 
 pub walk_is : {u v : Walk} → u.nodes ≡ v.nodes → u.pairs ≡ v.pairs → u.last ≡ v.last → u ≡ v
 walk_is p q r = λ i. record { nodes = p i; pairs = q i; last = r i }
 
-pub gap_said : (w : Walk) → Said gap w (Good w)
+pub gap_said : (w : Walk) → Said gap w (Some w)
 unfolding Rises last_of
 gap_said w = (record { holds = tt; rises = tt; pairs = omega arith; nodes = omega arith }, walk_is (omega arith) (omega arith) refl)
 
@@ -49,9 +50,9 @@ module _ (s t : Task) where
   after_both w = walk_is (omega arith) (omega (arith, length-append s.keys t.keys)) (sym (last_append w.last s.keys t.keys))
 
   -- what is said of the second, after the first was passed, is said of both
-  pub then_said : (w v : Walk) (r : Checked) → Said s w (Good v) → Said t v r → Said (both s t) w r
-  then_said w v Bad p q = λ b. q (subst (Passes t) (sym p.1) (passes_right w b))
-  then_said w v (Good u) p q = (passes_both w p.0 (subst (Passes t) p.1 q.0), q.1 ∙ ap (λ x. after x t) p.1 ∙ after_both w)
+  pub then_said : (w v : Walk) (r : Option Walk) → Said s w (Some v) → Said t v r → Said (both s t) w r
+  then_said w v None p q = λ b. q (subst (Passes t) (sym p.1) (passes_right w b))
+  then_said w v (Some u) p q = (passes_both w p.0 (subst (Passes t) p.1 q.0), q.1 ∙ ap (λ x. after x t) p.1 ∙ after_both w)
 
 -- ---- the same task in other words
 
@@ -62,43 +63,37 @@ pub record Same (s t : Task) : Type 0 where
   pub nodes : s.nodes ≡ t.nodes
 
 module _ {s t : Task} (e : Same s t) where
-  pub same_said : (w : Walk) (r : Checked) → Said s w r → Said t w r
-  same_said w Bad q = λ p. q (record { holds = e.from p.holds; rises = rw e.keys p.rises; pairs = omega (arith, ap length e.keys, p.pairs); nodes = omega (arith, e.nodes, p.nodes) })
-  same_said w (Good v) q = (
+  pub same_said : (w : Walk) (r : Option Walk) → Said s w r → Said t w r
+  same_said w None q = λ p. q (record { holds = e.from p.holds; rises = rw e.keys p.rises; pairs = omega (arith, ap length e.keys, p.pairs); nodes = omega (arith, e.nodes, p.nodes) })
+  same_said w (Some v) q = (
     record { holds = e.to q.0.holds; rises = rw e.keys at q.0.rises; pairs = omega (arith, ap length e.keys, q.0.pairs); nodes = omega (arith, e.nodes, q.0.nodes) },
     q.1 ∙ walk_is (ap (λ n. w.nodes - n) e.nodes) (ap (λ l. w.pairs - length l) e.keys) (ap (last_of w.last) e.keys),
   )
 
--- ---- a task, and the count of its pairs
+-- ---- a task, and the count of its pairs (in format 2)
 
-abbrev pub counted : Task → ℕ → Task
-counted t x = record { holds = t.holds × (x ≡ length t.keys); keys = t.keys; nodes = t.nodes }
+abbrev pub counted : Layout → Task → ℕ → Task
+counted fm t x = record { holds = t.holds × (Counts fm → x ≡ length t.keys); keys = t.keys; nodes = t.nodes }
 
-uncounted : (t : Task) (x : ℕ) (w : Walk) → Passes (counted t x) w → Passes t w
-uncounted t x w p = record { holds = p.holds.0; rises = p.rises; pairs = p.pairs; nodes = p.nodes }
+-- a task that was answered, and then the count of its pairs compared
+abbrev pub Told : Layout → ℕ → Walk → Option Walk → Option Walk → Type 0
+Told fm x u None q = q ≡ None
+Told fm x u (Some v) q = Tells fm x u v q
 
-pub counted_said : (t : Task) (x : ℕ) (w : Walk) (d q : Checked) → Said t w d → Counted d w.pairs x q → Said (counted t x) w q
-counted_said t x w Bad q s c = subst (Said (counted t x) w) (sym c) (λ p. s (uncounted t x w p))
-counted_said t x w (Good v) Bad s c = λ p. c (omega (arith, ap (λ (z : Walk). z.pairs) s.1, s.0.pairs, p.holds.1))
-counted_said t x w (Good v) (Good u) s c = (
-  record { holds = (s.0.holds, omega (arith, ap (λ (z : Walk). z.pairs) s.1, s.0.pairs, c.0)); rises = s.0.rises; pairs = s.0.pairs; nodes = s.0.nodes },
-  c.1 ∙ s.1,
-)
+module _ (fm : Layout) (t : Task) (x : ℕ) (u : Walk) where
+  uncounted : Passes (counted fm t x) u → Passes t u
+  uncounted p = record { holds = p.holds.0; rises = p.rises; pairs = p.pairs; nodes = p.nodes }
 
--- the cases of the comparison
-module _ (d : Checked) (pairs x : ℕ) where
-  pub told_bad : d ≡ Bad → Counted d pairs x Bad
-  told_bad e = rw e refl
+  passed_pairs : (v : Walk) → Said t u (Some v) → u.pairs - v.pairs ≡ length t.keys
+  passed_pairs v s = omega (arith, ap (λ (z : Walk). z.pairs) s.1, s.0.pairs)
 
-  module _ (v : Walk) (t : ℕ) (e : d ≡ Good v) (s : t ≡ x) where
-    pub told_over : pairs < t → Counted d pairs x Bad
-    told_over l = rw e (λ z. omega arith)
-
-    pub told_other : t ≤ pairs → (v.pairs ≡ pairs - t → ⊥) → Counted d pairs x Bad
-    told_other l n = rw e (λ z. n (omega arith))
-
-    pub told_good : t ≤ pairs → v.pairs ≡ pairs - t → Counted d pairs x (Good v)
-    told_good l n = rw e (omega arith, refl)
+  pub counted_said : (d q : Option Walk) → Said t u d → Told fm x u d q → Said (counted fm t x) u q
+  counted_said None q s c = subst (Said (counted fm t x) u) (sym c) (λ p. s (uncounted p))
+  counted_said (Some v) None s c = λ p. c (λ a. p.holds.1 a ∙ sym (passed_pairs v s))
+  counted_said (Some v) (Some q) s c = (
+    record { holds = (s.0.holds, λ a. c.0 a ∙ passed_pairs v s); rises = s.0.rises; pairs = s.0.pairs; nodes = s.0.nodes },
+    c.1 ∙ s.1,
+  )
 
 -- ---- s begins t
 
@@ -109,7 +104,7 @@ pub record Begins (s t : Task) : Type 0 where
   pub nodes : s.nodes ≤ t.nodes
 
 -- a refusal of what begins a task refuses it
-pub refused : {s t : Task} → Begins s t → (w : Walk) → Said s w Bad → Said t w Bad
+pub refused : {s t : Task} → Begins s t → (w : Walk) → Said s w None → Said t w None
 refused {s} b w q = λ p. q (record {
   holds = b.holds p.holds;
   rises = rises_left _ s.keys b.rest (rw b.keys at p.rises);
@@ -142,7 +137,7 @@ module _ (f : ℕ → Task) (k size : ℕ → ℕ) (more : (i : ℕ) → size (i
       (eq-or-lt_of_le l)
 
   -- the next edge, and the key after it
-  pub edge_said : (i : ℕ) (w v : Walk) (r : Checked) → Said (steps f k size i) w (Good v) → Said (f i) v r → Said (up_to f k size i) w r
+  pub edge_said : (i : ℕ) (w v : Walk) (r : Option Walk) → Said (steps f k size i) w (Some v) → Said (f i) v r → Said (up_to f k size i) w r
   edge_said i w v r p q = same_said (record {
     to = λ h. below_more (λ (j : ℕ). (f j).holds) i h.0 h.1;
     from = λ h. ((λ j l. h j (omega arith)), h i (omega arith));
@@ -150,7 +145,7 @@ module _ (f : ℕ → Task) (k size : ℕ → ℕ) (more : (i : ℕ) → size (i
     nodes = sym (more i);
   }) w r (then_said (steps f k size i) (f i) w v r p q)
 
-  pub key_said : (i x : ℕ) (w v : Walk) (r : Checked) → x ≡ k i → Said (up_to f k size i) w (Good v) → Said (key_task x) v r → Said (steps f k size (i + 1)) w r
+  pub key_said : (i x : ℕ) (w v : Walk) (r : Option Walk) → x ≡ k i → Said (up_to f k size i) w (Some v) → Said (key_task x) v r → Said (steps f k size (i + 1)) w r
   key_said i x w v r e p q = same_said (record {
     to = λ h. h.0;
     from = λ h. (h, tt);
@@ -159,7 +154,7 @@ module _ (f : ℕ → Task) (k size : ℕ → ℕ) (more : (i : ℕ) → size (i
   }) w r (then_said (up_to f k size i) (key_task x) w v r p q)
 
   -- refusals, of either, refuse all edges
-  pub key_refused : (i m : ℕ) (w : Walk) → i < m → Said (steps f k size (i + 1)) w Bad → Said (up_to f k size m) w Bad
+  pub key_refused : (i m : ℕ) (w : Walk) → i < m → Said (steps f k size (i + 1)) w None → Said (up_to f k size m) w None
   key_refused i m w l = refused (
       let r = mix_on (λ j. (f j).keys) k (i + 1) m (omega arith) in
       record {
@@ -170,9 +165,9 @@ module _ (f : ℕ → Task) (k size : ℕ → ℕ) (more : (i : ℕ) → size (i
       }
       ) w
 
-  pub edge_refused : (i m : ℕ) (w : Walk) → i < m → Said (up_to f k size i) w Bad → Said (up_to f k size m) w Bad
+  pub edge_refused : (i m : ℕ) (w : Walk) → i < m → Said (up_to f k size i) w None → Said (up_to f k size m) w None
   edge_refused i m w l q =
       key_refused i m w l (refused (record { holds = λ h. h; rest = k i ∷ []; keys = mix_more (λ j. (f j).keys) k i; nodes = omega arith }) w q)
 
-  pub steps_none : (w : Walk) → size 0 ≡ 0 → Said (steps f k size 0) w (Good w)
-  steps_none w e = same_said (record { to = λ h j l. absurd (not-suc-le-zero l); from = λ h. tt; keys = refl; nodes = sym e }) w (Good w) (gap_said w)
+  pub steps_none : (w : Walk) → size 0 ≡ 0 → Said (steps f k size 0) w (Some w)
+  steps_none w e = same_said (record { to = λ h j l. absurd (not-suc-le-zero l); from = λ h. tt; keys = refl; nodes = sym e }) w (Some w) (gap_said w)

@@ -1,5 +1,6 @@
 -- The whole arena: what the tests found makes it well-formed, and a well-formed one passes them.
 -- Assumes nothing.
+use Rattle.std.proofs.Common.{None}
 use Prim.Native.Nat.{ℕ}
 use native.Mathlib.Omega.{arith}
 use mathlib.Core.Path.{◌≡◌, ap, subst, sym}
@@ -13,7 +14,6 @@ use Rattle.model.proofs.Parts.{of_parts, parts_of, counted}
 use Rattle.model.proofs.Bounds.{low}
 use Rattle.model.proofs.Forward.{forward}
 use Rattle.model.proofs.Decode.{state_of}
-use Rattle.inspect.specs.declared.Last.TheVariants.{Start}
 use Rattle.inspect.specs.Tests.{Decides, Marked}
 use Rattle.inspect.proofs.Decisions.{decided}
 use Rattle.checker.specs.declared.Walk.{Walk}
@@ -32,7 +32,7 @@ module _ {fm : Layout} {w : List ℕ} where
         offset = h.offset;
         tree = p.holds;
         free = f.free;
-        rising = rises_rising Start (keys_by fm w) p.rises;
+        rising = rises_rising None (keys_by fm w) p.rises;
         pairs_true = omega (arith, k, f.pairs, p.pairs);
         nodes_true = omega (arith, n, f.nodes, p.nodes, h.few_free);
         marks = marks_of (header w seen_word) (header w mark_word) (keys_by fm w) p.rises (subst (λ (u : Walk). Marked (header w seen_word) (header w mark_word) u.last) e f.marked);

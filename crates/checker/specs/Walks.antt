@@ -1,18 +1,13 @@
 -- What a step of the walk has to pass, and what it then says.
 -- Assumes nothing.
-use Rattle.std.specs.Prelude.{ℕ, ◌+◌, ◌-◌, ◌≤◌, ◌<◌, ◌≡◌, List, [], ◌∷◌, ◌++◌, length}
+use Rattle.std.specs.Prelude.{ℕ, ◌+◌, ◌-◌, ◌≤◌, ◌<◌, ◌≡◌, List, [], ◌∷◌, ◌++◌, length, Option, None, Some}
 use Rattle.model.specs.Lists.{join_to, mix_to}
 use Rattle.model.specs.declared.Layout.{Layout}
-use Rattle.model.specs.declared.Layout.TheVariants.{Format1, Format2}
-use Rattle.model.specs.Layout.{least}
+use Rattle.model.specs.Layout.{least, Counts}
 use Rattle.model.specs.WellFormed.{Reached, edge_at_by, key_at_by, reach_by, keys_in_by}
 use Rattle.model.specs.Shape.{ShapeBy}
-use Rattle.inspect.specs.declared.Last.{Last}
-use Rattle.inspect.specs.declared.Last.TheVariants.{After}
 use Rattle.inspect.specs.Tests.{Above}
 use Rattle.checker.specs.declared.Walk.{Walk}
-use Rattle.checker.specs.declared.Checked.{Checked}
-use Rattle.checker.specs.declared.Checked.TheVariants.{Bad, Good}
 
 -- what has to hold, the keys in order, how many nodes
 pub record Task : Type 1 where
@@ -21,13 +16,13 @@ pub record Task : Type 1 where
   pub nodes : ℕ
 
 -- the keys rise strictly, from the last one on
-unfoldable pub Rises : Last → List ℕ → Type 0
+unfoldable pub Rises : Option ℕ → List ℕ → Type 0
 Rises l [] = Unit {0}
-Rises l (k ∷ ks) = Above l k × Rises (After k) ks
+Rises l (k ∷ ks) = Above l k × Rises (Some k) ks
 
-unfoldable pub last_of : Last → List ℕ → Last
+unfoldable pub last_of : Option ℕ → List ℕ → Option ℕ
 last_of l [] = l
-last_of l (k ∷ ks) = last_of (After k) ks
+last_of l (k ∷ ks) = last_of (Some k) ks
 
 -- a task that is done from a walk on: no more pairs and nodes than are left
 pub record Passes (t : Task) (w : Walk) : Type 0 where
@@ -40,20 +35,14 @@ pub record Passes (t : Task) (w : Walk) : Type 0 where
 abbrev pub after : Walk → Task → Walk
 after w t = record { nodes = w.nodes - t.nodes; pairs = w.pairs - length t.keys; last = last_of w.last t.keys }
 
-abbrev pub Said : Task → Walk → Checked → Type 0
-Said t w Bad = Passes t w → ⊥
-Said t w (Good v) = Passes t w × (v ≡ after w t)
+abbrev pub Said : Task → Walk → Option Walk → Type 0
+Said t w None = Passes t w → ⊥
+Said t w (Some v) = Passes t w × (v ≡ after w t)
 
--- a task that was answered, and then the count x of its pairs compared with those that were passed
-abbrev pub Counted : Checked → ℕ → ℕ → Checked → Type 0
-Counted Bad pairs x q = q ≡ Bad
-Counted (Good v) pairs x Bad = v.pairs + x ≡ pairs → ⊥
-Counted (Good v) pairs x (Good u) = (v.pairs + x ≡ pairs) × (u ≡ v)
-
--- (format 1 has no counts)
-abbrev pub CountedBy : Layout → Checked → ℕ → ℕ → Checked → Type 0
-CountedBy Format1 d pairs x q = q ≡ d
-CountedBy Format2 d pairs x q = Counted d pairs x q
+-- what was passed from one walk to another, and then compared with the count x
+abbrev pub Tells : Layout → ℕ → Walk → Walk → Option Walk → Type 0
+Tells fm x u v None = (Counts fm → x ≡ u.pairs - v.pairs) → ⊥
+Tells fm x u v (Some q) = (Counts fm → x ≡ u.pairs - v.pairs) × (q ≡ v)
 
 -- ---- the tasks
 

@@ -2,259 +2,179 @@
 // It only reads, ends on any words, and meets at most as many nodes as there are.
 #![tactic(auto)]
 
-ghost use Rattle.std.specs.Prelude.{◌≡◌, ◌<◌, ◌≤◌, length, OnOk, OnErr, IfErr};
-ghost use Rattle.model.specs.Layout.{SizedBy, Counts, least, most, total_word, word_at_by, word_at};
+ghost use Rattle.std.specs.Prelude.{◌≡◌, ◌-◌, ◌<◌, ◌≤◌, MatchOption, OnOk, OnErr, IfErr};
+ghost use Rattle.model.specs.Layout.{Counts, header, count_word, least, most, total_word, word_at_by};
 ghost use Rattle.model.specs.WellFormed.{WellFormedBy, WellFormed, root_fewest};
 ghost use Rattle.model.specs.Public.{Promised};
 ghost use Rattle.model.specs.Public as promise;
 ghost use Rattle.model.specs.Answer.{said_done};
-ghost use Rattle.node.specs.Reading.{Within};
-ghost use Rattle.formats.specs.Within.{WithinBy};
 ghost use Rattle.inspect.specs.Tests.{Decides, reached};
-ghost use Rattle.checker.specs.Walks.{Said, Counted, CountedBy, key_task, keys_task, child_of, edges_task, node_task};
+ghost use Rattle.checker.specs.Walks.{Said, Tells, key_task, keys_task, child_of, edges_task, node_task};
 ghost use Rattle.checker.specs.Whole.{HeadingBy, tree, start, FinishedBy};
 
-use formats::{base_of, edge_of, key_of, len_of, number};
+use formats::{Arena, Format, Format1, Format2};
 use header::{HIGHEST, LARGEST};
-use inspect::{Last, Visit, above, ascents, chain, lead, marked, own, own_leaf};
+use inspect::{Visit, above, ascents, chain, lead, marked, own, own_leaf};
 use model::{Layout, Refused};
-use node::{HEADER, MIN_LEN, NONE, NodeNo, Place, total};
+use node::{HEADER, MIN_LEN, NONE, NodeNo, Place};
+use std::marker::PhantomData;
 
 // What is left to be met, nodes and pairs, and the last key. It falls, so that hostile words cost no more than the nodes there are.
 #[derive(Clone, Copy)]
 pub struct Walk {
     pub nodes: usize,
     pub pairs: usize,
-    pub last: Last,
-}
-
-#[derive(Clone, Copy)]
-pub enum Checked {
-    Bad,
-    Good(Walk),
+    pub last: Option<u64>,
 }
 
 // Passes one pair.
-fn pass_key(w: Walk, key: u64) -> Checked
+fn pass_key(w: Walk, key: u64) -> Option<Walk>
     ensures { Said (key_task key) w result }
 {
-    let last = w.last;
-    if w.pairs == 0 {
-        return Checked::Bad;
+    if w.pairs == 0 || !above(w.last, key) {
+        return None;
     }
-    if !above(last, key) {
-        return Checked::Bad;
-    }
-    Checked::Good(Walk {
+    Some(Walk {
         nodes: w.nodes,
         pairs: w.pairs - 1,
-        last: Last::After(key),
+        last: Some(key),
     })
 }
 
 // The n keys of a root that is a leaf.
-fn check_keys(f: Layout, a: &[u64], node: NodeNo, n: usize, before: Walk) -> Checked
-    requires { WithinBy f a.now node.0 × (n ≤ most) }
-    ensures { Said (keys_task f a.now node.0 n) before result }
+fn check_keys<F: Format>(arena: &Arena<F>, node: NodeNo, n: usize, before: Walk) -> Option<Walk>
+    requires { (node.0 < arena.now.count) × (n ≤ most) }
+    ensures { Said (keys_task F.layout arena.now.words.now node.0 n) before result }
 {
     let mut w = before;
-    let mut i = 0;
-    while i < n {
-        match pass_key(w, key_of(f, a, node, Place(i))) {
-            Checked::Bad => return Checked::Bad,
-            Checked::Good(v) => {
-                w = v;
-            }
-        }
-        i += 1;
+    for i in 0..n {
+        w = pass_key(w, arena.key(node, Place(i)))?;
     }
-    Checked::Good(w)
+    Some(w)
 }
 
 // The node that an edge leads to, one level lower.
-fn child(f: Layout, a: &[u64], node: NodeNo, at: Place, below: usize) -> Visit
-    requires { WithinBy f a.now node.0 × (at.0 ≤ most) }
-    ensures { reached result ≡ child_of f a.now below node.0 at.0 }
+fn child<F: Format>(arena: &Arena<F>, node: NodeNo, at: Place, below: usize) -> Visit
+    requires { (node.0 < arena.now.count) × (at.0 ≤ most) }
+    ensures { reached result ≡ child_of F.layout arena.now.words.now below node.0 at.0 }
 {
     Visit {
         below,
         fewest: MIN_LEN,
-        node: edge_of(f, a, node, at),
+        node: arena.edge(node, at),
         parent: node.0 as u64,
         place: at,
     }
 }
 
-// Whether a leaf's count is its length; format 1 has no counts.
-fn counted(f: Layout, a: &[u64], node: NodeNo, n: usize) -> bool
-    requires { WithinBy f a.now node.0 }
-    ensures { Decides result (Counts f → word_at_by f a.now node.0 total_word ≡ n) }
+// Whether a node's count is so many pairs; format 1 has no counts.
+fn counted<F: Format>(arena: &Arena<F>, node: NodeNo, pairs: usize) -> bool
+    requires { node.0 < arena.now.count }
+    ensures { Decides result (Counts F.layout → word_at_by F.layout arena.now.words.now node.0 total_word ≡ pairs) }
 {
-    match f {
-        Layout::Format1 => true,
-        Layout::Format2 => total(a, node) == n as u64,
-    }
+    arena.total(node).is_none_or(|total| total == pairs as u64)
 }
 
 // A leaf that is not the root, with no turns by its length: the words not in use are 0, and nothing is below 0, so that all ascents lie among its
 // keys. They rise strictly when there is one ascent less than there are keys.
-fn check_leaf(f: Layout, a: &[u64], count: usize, v: Visit, before: Walk) -> Checked
-    requires { SizedBy f count (length a.now) × (v.below ≡ 0) × (v.fewest ≡ least) }
-    ensures { Said (node_task f a.now count (reached v)) before result }
+fn check_leaf<F: Format>(arena: &Arena<F>, v: Visit, before: Walk) -> Option<Walk>
+    requires { (v.below ≡ 0) × (v.fewest ≡ least) }
+    ensures { Said (node_task F.layout arena.now.words.now arena.now.count (reached v)) before result }
 {
-    let last = before.last;
-    if before.nodes == 0 {
-        return Checked::Bad;
-    }
-    if !own_leaf(f, a, count, v) {
-        return Checked::Bad;
+    if before.nodes == 0 || !own_leaf(arena, v) {
+        return None;
     }
     let node = v.node;
-    let n = len_of(f, a, node);
-    if before.pairs < n {
-        return Checked::Bad;
+    let n = arena.len(node);
+    if before.pairs < n
+        || !above(before.last, arena.key(node, Place(0)))
+        || ascents(arena, node) + 1 != n
+        || !counted(arena, node, n)
+    {
+        return None;
     }
-    if !above(last, key_of(f, a, node, Place(0))) {
-        return Checked::Bad;
-    }
-    if ascents(f, a, node) + 1 != n {
-        return Checked::Bad;
-    }
-    if !counted(f, a, node, n) {
-        return Checked::Bad;
-    }
-    Checked::Good(Walk {
+    Some(Walk {
         nodes: before.nodes - 1,
         pairs: before.pairs - n,
-        last: Last::After(key_of(f, a, node, Place(n - 1))),
+        last: Some(arena.key(node, Place(n - 1))),
     })
 }
 
-// The leaves that a node's edges lead to; the keys stand between them.
-fn check_leaves(f: Layout, a: &[u64], count: usize, node: NodeNo, n: usize, before: Walk) -> Checked
-    requires { SizedBy f count (length a.now) × (node.0 < count) × (n ≤ most) }
-    ensures { Said (edges_task f a.now count 0 node.0 n) before result }
+// What was passed in a node and below it, where its count says as much.
+fn told<F: Format>(arena: &Arena<F>, node: NodeNo, before: Walk, after: Walk) -> Option<Walk>
+    requires { (node.0 < arena.now.count) × (after.pairs ≤ before.pairs) }
+    ensures { Tells F.layout (word_at_by F.layout arena.now.words.now node.0 total_word) before after result }
 {
-    let mut w = before;
-    let mut i = 0;
-    loop {
-        match check_leaf(f, a, count, child(f, a, node, Place(i), 0), w) {
-            Checked::Bad => return Checked::Bad,
-            Checked::Good(v) => {
-                if i == n {
-                    return Checked::Good(v);
-                }
-                match pass_key(v, key_of(f, a, node, Place(i))) {
-                    Checked::Bad => return Checked::Bad,
-                    Checked::Good(u) => {
-                        w = u;
-                    }
-                }
-            }
-        }
-        i += 1;
+    if !counted(arena, node, before.pairs - after.pairs) {
+        return None;
     }
-}
-
-// Compares a node's count with the pairs that were passed in it and below it.
-fn told(a: &[u64], node: NodeNo, pairs: usize, done: Checked) -> Checked
-    requires { Within a.now node.0 }
-    ensures { Counted done pairs (word_at a.now node.0 total_word) result }
-{
-    match done {
-        Checked::Bad => return Checked::Bad,
-        Checked::Good(v) => {
-            let t = total(a, node) as usize;
-            if t > pairs {
-                return Checked::Bad;
-            }
-            if v.pairs != pairs - t {
-                return Checked::Bad;
-            }
-            return Checked::Good(v);
-        }
-    }
-}
-
-// The same in either format: format 1 has no counts.
-fn told_by(f: Layout, a: &[u64], node: NodeNo, pairs: usize, done: Checked) -> Checked
-    requires { WithinBy f a.now node.0 }
-    ensures { CountedBy f done pairs (word_at_by f a.now node.0 total_word) result }
-{
-    match f {
-        Layout::Format1 => done,
-        Layout::Format2 => told(a, node, pairs, done),
-    }
+    Some(after)
 }
 
 // A node is sound when its edges are.
 #[cycle(check_edges_check_node)]
-fn check_node(f: Layout, a: &[u64], count: usize, v: Visit, before: Walk) -> Checked
-    requires { SizedBy f count (length a.now) }
-    ensures { Said (node_task f a.now count (reached v)) before result }
+fn check_node<F: Format>(arena: &Arena<F>, v: Visit, before: Walk) -> Option<Walk>
+    ensures { Said (node_task F.layout arena.now.words.now arena.now.count (reached v)) before result }
 {
-    if before.nodes == 0 {
-        return Checked::Bad;
+    if before.nodes == 0 || !own(arena, v) {
+        return None;
     }
-    if !own(f, a, count, v) {
-        return Checked::Bad;
-    }
-    let last = before.last;
-    let pairs = before.pairs;
     let w = Walk {
         nodes: before.nodes - 1,
-        pairs,
-        last,
+        pairs: before.pairs,
+        last: before.last,
     };
     let node = v.node;
-    let n = len_of(f, a, node);
+    let n = arena.len(node);
     if v.below == 0 {
-        return told_by(f, a, node, pairs, check_keys(f, a, node, n, w));
+        return told(arena, node, before, check_keys(arena, node, n, w)?);
     }
-    if !lead(f, a, count, node, n) {
-        return Checked::Bad;
+    if !lead(arena, node, n) {
+        return None;
     }
-    if v.below == 1 {
-        return told_by(f, a, node, pairs, check_leaves(f, a, count, node, n, w));
-    }
-    told_by(
-        f,
-        a,
+    told(
+        arena,
         node,
-        pairs,
-        check_edges(f, a, count, node, n, v.below - 1, w),
+        before,
+        check_edges(arena, node, n, v.below - 1, w)?,
     )
 }
 
-// An edge is sound when the node below is; the keys stand between the edges.
+// The node that an edge leads to.
 #[cycle(check_edges_check_node)]
-fn check_edges(
-    f: Layout,
-    a: &[u64],
-    count: usize,
+fn check_child<F: Format>(arena: &Arena<F>, v: Visit, before: Walk) -> Option<Walk>
+    requires { v.fewest ≡ least }
+    ensures { Said (node_task F.layout arena.now.words.now arena.now.count (reached v)) before result }
+{
+    if v.below == 0 {
+        check_leaf(arena, v, before)
+    } else {
+        check_node(arena, v, before)
+    }
+}
+
+// An edge is sound when the node below is; the keys stand between the edges. There is one call for all edges, which the compiler then puts
+// in its place: with a call before the loop and one in it, a check took a fifth more instructions.
+#[cycle(check_edges_check_node)]
+fn check_edges<F: Format>(
+    arena: &Arena<F>,
     node: NodeNo,
     n: usize,
     below: usize,
     before: Walk,
-) -> Checked
-    requires { SizedBy f count (length a.now) × (node.0 < count) × (n ≤ most) }
-    ensures { Said (edges_task f a.now count below node.0 n) before result }
+) -> Option<Walk>
+    requires { (node.0 < arena.now.count) × (n ≤ most) }
+    ensures { Said (edges_task F.layout arena.now.words.now arena.now.count below node.0 n) before result }
 {
     let mut w = before;
-    let mut i = 0;
-    while i < n {
-        match check_node(f, a, count, child(f, a, node, Place(i), below), w) {
-            Checked::Bad => return Checked::Bad,
-            Checked::Good(v) => match pass_key(v, key_of(f, a, node, Place(i))) {
-                Checked::Bad => return Checked::Bad,
-                Checked::Good(u) => {
-                    w = u;
-                }
-            },
+    for i in 0..n + 1 {
+        w = check_child(arena, child(arena, node, Place(i), below), w)?;
+        if i == n {
+            break;
         }
-        i += 1;
+        w = pass_key(w, arena.key(node, Place(i)))?;
     }
-    check_node(f, a, count, child(f, a, node, Place(n), below), w)
+    Some(w)
 }
 
 // The fewest pairs of a root.
@@ -264,89 +184,89 @@ fn root_fewest(height: usize) -> usize
     if height == 0 { 0 } else { 1 }
 }
 
-// Whether the header's first words are right, the height not too high and the free nodes not too many.
-fn heading(f: Layout, a: &[u64]) -> bool
-    ensures { Decides result (HeadingBy f a.now) }
+// The arena, where the header's first words are right, the height not too high and the free nodes not too many.
+fn heading<F: Format>(words: &[u64]) -> Option<Arena<'_, F>>
+    ensures { MatchOption result (HeadingBy F.layout words.now → ⊥) (λ arena. HeadingBy F.layout words.now × (arena.words.now ≡ words.now) × (arena.count ≡ header words.now count_word)) }
 {
-    if a.len() < HEADER {
-        return false;
+    if words.len() < HEADER {
+        return None;
     }
-    if header::format(a) != number(f) {
-        return false;
+    let count = header::count(words);
+    if header::format(words) != F::NUMBER
+        || count == 0
+        || count > LARGEST
+        || words.len() != HEADER + F::WORDS * count
+        || header::offset(words) != HEADER
+        || header::height(words) > HIGHEST
+        || header::free_nodes(words) > count
+    {
+        return None;
     }
-    let count = header::count(a);
-    if count == 0 {
-        return false;
-    }
-    if count > LARGEST {
-        return false;
-    }
-    if a.len() != base_of(f, NodeNo(count)) {
-        return false;
-    }
-    if header::offset(a) != HEADER {
-        return false;
-    }
-    if header::height(a) > HIGHEST {
-        return false;
-    }
-    if header::free_nodes(a) > count {
-        return false;
-    }
-    true
+    Some(Arena {
+        words,
+        count,
+        format: PhantomData,
+    })
 }
 
 // Whether the walk met all nodes and pairs, and the free chain and the mark are right.
-fn finished(f: Layout, a: &[u64], end: Walk) -> bool
-    requires { HeadingBy f a.now }
-    ensures { Decides result (FinishedBy f a.now end) }
+fn finished<F: Format>(arena: &Arena<F>, end: Walk) -> bool
+    requires { HeadingBy F.layout arena.now.words.now × (arena.now.count ≡ header arena.now.words.now count_word) }
+    ensures { Decides result (FinishedBy F.layout arena.now.words.now end) }
 {
-    let last = end.last;
-    if end.nodes != 0 {
-        return false;
-    }
-    if end.pairs != 0 {
-        return false;
-    }
-    let free = header::free_nodes(a) as u64;
-    if !chain(f, a, header::count(a), header::first_free(a), free) {
-        return false;
-    }
-    marked(header::seen(a), header::mark(a), last)
+    let words = arena.words;
+    end.nodes == 0
+        && end.pairs == 0
+        && chain(
+            arena,
+            header::first_free(words),
+            header::free_nodes(words) as u64,
+        )
+        && marked(header::seen(words), header::mark(words), end.last)
 }
 
 // The walk over the whole tree, from the root on.
-fn walk_tree(f: Layout, a: &[u64]) -> Checked
-    requires { HeadingBy f a.now }
-    ensures { Said (tree f a.now) (start a.now) result }
+fn walk_tree<F: Format>(arena: &Arena<F>) -> Option<Walk>
+    requires { HeadingBy F.layout arena.now.words.now × (arena.now.count ≡ header arena.now.words.now count_word) }
+    ensures { Said (tree F.layout arena.now.words.now) (start arena.now.words.now) result }
 {
-    let count = header::count(a);
-    let height = header::height(a);
+    let words = arena.words;
+    let height = header::height(words);
     let root = Visit {
         below: height,
         fewest: root_fewest(height),
-        node: header::root(a),
+        node: header::root(words),
         parent: NONE,
         place: Place(0),
     };
     let start = Walk {
-        nodes: count - header::free_nodes(a),
-        pairs: header::pairs(a) as usize,
-        last: Last::Start,
+        nodes: arena.count - header::free_nodes(words),
+        pairs: header::pairs(words) as usize,
+        last: None,
     };
-    check_node(f, a, count, root, start)
+    check_node(arena, root, start)
+}
+
+// Whether the words are a well-formed arena of a format: a copy of the code for each.
+fn is_formed<F: Format>(a: &[u64]) -> bool
+    ensures { Decides result (WellFormedBy F.layout a.now) }
+{
+    let Some(arena) = heading::<F>(a) else {
+        return false;
+    };
+    let Some(end) = walk_tree(&arena) else {
+        return false;
+    };
+    finished(&arena, end)
 }
 
 // Whether the words are a well-formed arena of a format.
 pub fn well_formed_by(f: Layout, a: &[u64]) -> bool
     ensures { Decides result (WellFormedBy f a.now) }
 {
-    if !heading(f, a) {
-        return false;
-    }
-    match walk_tree(f, a) {
-        Checked::Bad => false,
-        Checked::Good(end) => finished(f, a, end),
+    match f {
+        Layout::Format1 => is_formed::<Format1>(a),
+        Layout::Format2 => is_formed::<Format2>(a),
     }
 }
 
@@ -354,7 +274,7 @@ pub fn well_formed_by(f: Layout, a: &[u64]) -> bool
 pub fn well_formed(a: &[u64]) -> bool
     ensures { Decides result (WellFormed a.now) }
 {
-    well_formed_by(Layout::Format2, a)
+    is_formed::<Format2>(a)
 }
 
 // Refuses words that are no well-formed arena.

@@ -268,13 +268,6 @@ module _ {w hd : List ℕ} {ns : List NodeVal} {n : ℕ} (a : Arena w hd ns) whe
     pub leaf_counted : (w' : List ℕ) → Arena w' hd (recount ns n) → CountedIn w' hd ns 0 K.tree
     leaf_counted w' b = node_right 0 K.tree a K.stands K.links K.few K.once K.within tt (gaps_right ns K.tree.rest) w' (subst (λ (q : ℕ). Arena w' hd (recount ns q)) (sym K.node_is) b)
 
-  -- a parent of leaves
-  pub one_tree : (b : ℕ) → b ≡ 1 → TreeIn ns n b → TreeIn ns n 1
-  one_tree b e K = subst (TreeIn ns n) e K
-
-  pub edges_one : (b : ℕ) → b ≡ 1 → {w₁ : List ℕ} → EdgesCall w w₁ n 0 → EdgesCall w w₁ n (b - 1)
-  edges_one b e {w₁} call = let z : 0 ≡ b - 1 = omega arith in subst (λ (k : ℕ). EdgesCall w w₁ n k) z call
-
   pub inner_tree : (b : ℕ) → (b ≡ 0 → ⊥) → TreeIn ns n b → TreeIn ns n (suc (b - 1))
   inner_tree zero z K = absurd (z refl)
   inner_tree (suc h) z K = rw (sub-one (suc h)) K

@@ -6,8 +6,8 @@ ghost use Rattle.model.specs.Layout.{NodeVal, Arena};
 ghost use Rattle.node.specs.Reading.{Has};
 ghost use Rattle.counting.specs.Counting.{TreeIn, CountedIn, EdgesIn};
 
-use node::{NodeNo, Place, TOTAL, edge, len, node_base};
-use totals::set_right;
+use node::{NodeNo, Place, edge, len};
+use totals::{set_right, set_total};
 
 // Sets the count of a leaf.
 fn count_leaf(a: &mut [u64], n: NodeNo)
@@ -15,22 +15,7 @@ fn count_leaf(a: &mut [u64], n: NodeNo)
     ensures { (hd : List ℕ) (ns : List NodeVal) (t : TreeIn ns n.0 0) → Arena a.old hd ns → CountedIn a.new hd ns 0 t.tree }
 {
     let t = len(a, n) as u64;
-    let b = node_base(n);
-    a[b + TOTAL] = t;
-}
-
-// Sets the counts of the leaves that a node's edges lead to.
-fn count_leaves(a: &mut [u64], n: NodeNo)
-    requires { Has a.old (λ hd ns. TreeIn ns n.0 1) }
-    ensures { (hd : List ℕ) (ns : List NodeVal) (t : TreeIn ns n.0 1) → Arena a.old hd ns → EdgesIn a.new hd ns 0 t.tree }
-{
-    let last = len(a, n);
-    let mut i: usize = 0;
-    while i <= last {
-        let child = edge(a, n, Place(i));
-        count_leaf(a, child);
-        i += 1;
-    }
+    set_total(a, n, t);
 }
 
 // Sets the counts of a node and of all below it, which has so many levels below it.
@@ -43,11 +28,6 @@ pub fn count_node(a: &mut [u64], n: NodeNo, below: usize)
         count_leaf(a, n);
         return;
     }
-    if below == 1 {
-        count_leaves(a, n);
-        set_right(a, n);
-        return;
-    }
     count_edges(a, n, below - 1);
     set_right(a, n);
 }
@@ -58,11 +38,9 @@ fn count_edges(a: &mut [u64], n: NodeNo, below: usize)
     requires { Has a.old (λ hd ns. TreeIn ns n.0 (suc below)) }
     ensures { (hd : List ℕ) (ns : List NodeVal) (t : TreeIn ns n.0 (suc below)) → Arena a.old hd ns → EdgesIn a.new hd ns below t.tree }
 {
-    let m = len(a, n);
-    let mut i: usize = 0;
-    while i <= m {
+    let last = len(a, n);
+    for i in 0..=last {
         let child = edge(a, n, Place(i));
         count_node(a, child, below);
-        i += 1;
     }
 }

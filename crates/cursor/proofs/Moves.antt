@@ -5,9 +5,13 @@ use native.Mathlib.Omega.{arith}
 use mathlib.Core.Path.{◌≡◌, refl, sym, ap, ◌∙◌, subst}
 use mathlib.Core.Logic.{inl, inr}
 use mathlib.Core.List.{List, [], ◌∷◌}
-use mathlib.Core.Option.{none}
+use mathlib.Core.Option as model
 use lib.ListN.{length}
-use Rattle.model.specs.declared.Answer.TheVariants.{BadArena, Value, Absent, StaleCursor}
+use Rattle.model.specs.declared.Answer.TheVariants.{Value}
+use Rattle.model.specs.declared.Picked.{Picked}
+use Rattle.model.specs.declared.Refused.{Refused}
+use Rattle.model.specs.declared.Refused.TheVariants.{BadArena}
+use Rattle.model.specs.Answer.{said_picked}
 use Rattle.model.specs.declared.SearchBound.{SearchBound}
 use Rattle.model.specs.declared.SearchBound.TheVariants.{AllIncluded}
 use Rattle.model.specs.Layout.{most, base, node_size, header, height_word, word_at, state_word, keys_word, values_word, edges_word, internal}
@@ -28,23 +32,23 @@ use Rattle.node.specs.declared.NodeNo.{NodeNo}
 use Rattle.node.specs.declared.Place.{Place}
 use Rattle.search.specs.declared.Handle.{Handle}
 use Rattle.search.specs.Results.{leaf_edge}
-use Rattle.std.proofs.Common.{Some, None}
+use Rattle.std.proofs.Common.{Option, Some, None, Ok, Err}
 use Rattle.navigate.specs.Places.{InTree, EdgeAt, KvAt, stepped}
 use Rattle.navigate.proofs.Pairs.{step_placed, kv_within, kv_key, kv_val}
 use Rattle.navigate.proofs.Steps.{climb_top}
 use Rattle.walking.specs.Arrived.{arrived}
 use Rattle.walking.specs.Walking.{Stale}
-use Rattle.walking.proofs.Walks.{exactly_stale, at_the_ends}
+use Rattle.walking.proofs.Walks.{exactly_stale}
 use Rattle.walking.proofs.Live.{PlaceAt, live_at, live_place}
 use Rattle.walking.proofs.Spots.{start_of, end_of, next_arrives, previous_arrives}
 use Rattle.cursor.specs.declared.Cursor.{Cursor}
-use Rattle.cursor.specs.declared.Moved.{Moved}
-use Rattle.cursor.specs.Cursors.{stop_of, stand_of, cursor_of, moved_of, standing}
+use Rattle.cursor.specs.declared.Stand.{Stand}
+use Rattle.cursor.specs.Cursors.{stop_of, stand_of, cursor_of, moved_of, standing, Allows, Checked}
 
 -- ---- where a step ends
 
 -- no pair
-pub none_arrived : (n : ℕ) (end : on.Stand) (p : Spot) → None ≡ stepped p → record { cursor = record { changes = n; stand = end }; found = picked none } ≡ arrived n end p
+pub none_arrived : (n : ℕ) (end : on.Stand) (p : Spot) → None ≡ stepped p → record { cursor = record { changes = n; stand = end }; found = picked model.none } ≡ arrived n end p
 none_arrived n end (gap c) e = refl
 none_arrived n end (at c m l x y r) e = let z : ◌≡◌ {A = ℕ} 0 1 = cc in absurd (omega arith)
 
@@ -135,8 +139,9 @@ module _ {w : List ℕ} {s : State} (o : Holds w s) {m k h : ℕ} (y : Sunk s m 
       go zero p e q = absurd (omega arith)
       go (suc j) p e q = record { left = j; place = below_at o p 0 x (omega arith) ex; sum = omega arith }
 
-  pub sunk_high : {n : ℕ} → At s n h → k ≤ header w height_word
-  sunk_high p = omega (arith, at_high o p, y.sum)
+  -- as many as the tree has are all of them
+  pub sunk_all : {n : ℕ} → At s n h → header w height_word ≤ k → k ≡ h
+  sunk_all p l = omega (arith, at_high o p, y.sum, l)
 
 -- ---- a place that holds a pair
 
@@ -148,15 +153,49 @@ kv_of {s = s} o node i y r u =
 
 -- ---- the promises
 
-module _ {w : List ℕ} where
-  pub walk_bad : (f : State → on.Moved) (c : Cursor) (m : Moved) → (WellFormed w → ⊥) → m ≡ record { cursor = c; found = record { answer = BadArena; key = 0 } } → Walk f (cursor_of c) w w (cursor_of m.cursor) m.found
-  walk_bad f c m b e = inl (b, (refl, ap (λ (x : Moved). cursor_of x.cursor) e, ap (λ (x : Moved). x.found) e))
+-- a call that is refused as the arena is bad
+pub walk_bad : {w : List ℕ} (f : State → on.Moved) (c : on.Cursor) → (WellFormed w → ⊥) → (e : Refused) → e ≡ BadArena → Walk f c w w c (said_picked (Err e))
+walk_bad f c b e q = inl (b, (refl, refl, ap (λ (r : Refused). said_picked (Err r)) q))
 
-  pub walk_done : (f : State → on.Moved) (c : on.Cursor) (m : Moved) → WellFormed w → ((s : State) → Holds w s → moved_of m ≡ f s) → Walk f c w w (cursor_of m.cursor) m.found
-  walk_done f c m v g =
+-- one that moves from c: to where f says
+pub walk_done : {w : List ℕ} (f : State → on.Moved) (c : on.Cursor) (n : ℕ) (m : Stand × Option (ℕ × ℕ)) → WellFormed w → ((s : State) → Holds w s → moved_of n m ≡ f s) → Walk f c w w (record { changes = n; stand = stand_of m.0 }) (said_picked (Ok m.1))
+walk_done {w} f c n m v g =
+    let o = forward w v in
+    let e = g _ o in
+    inr ((λ b. b v), record { state = _; holds = o; left = refl; stands = ap (λ (x : on.Moved). x.cursor) e; said = ap (λ (x : on.Moved). x.found) e })
+
+-- the same call by another name
+pub walk_same : {w : List ℕ} {f g : State → on.Moved} {c c' : on.Cursor} {r : Picked} → ((s : State) → f s ≡ g s) → Walk f c w w c' r → Walk g c w w c' r
+walk_same q (inl x) = inl x
+walk_same q (inr x) = let y = x.1 in inr (x.0, record { state = y.state; holds = y.holds; left = y.left; stands = y.stands ∙ ap (λ (m : on.Moved). m.cursor) (q y.state); said = y.said ∙ ap (λ (m : on.Moved). m.found) (q y.state) })
+
+-- a refused step, and a made one
+module _ {w : List ℕ} (n : ℕ) (c : Cursor) where
+  stale_step : (f : State → on.Moved) → WellFormed w → ((s : State) → Holds w s → on.stale (cursor_of c) ≡ f s) → Walk f (cursor_of c) w w (cursor_of c) (on.stale (cursor_of c)).found
+  stale_step f v g =
       let o = forward w v in
       let e = g _ o in
       inr ((λ b. b v), record { state = _; holds = o; left = refl; stands = ap (λ (x : on.Moved). x.cursor) e; said = ap (λ (x : on.Moved). x.found) e })
+
+  refused_step : (f : State → on.Moved) → (Stale w n (cursor_of c) → (s : State) → Holds w s → on.stale (cursor_of c) ≡ f s) → (e : Refused) → Checked w n c (Err e) → Walk f (cursor_of c) w w (cursor_of c) (said_picked (Err e))
+  refused_step f g e (inl x) = walk_bad f (cursor_of c) x.0 e x.1
+  refused_step f g e (inr x) = subst (λ (r : Refused). Walk f (cursor_of c) w w (cursor_of c) (said_picked (Err r))) (sym x.2) (stale_step f x.0 (g x.1))
+
+  pub next_refused : (e : Refused) → Checked w n c (Err e) → Walk (λ s. on.next n (cursor_of c) s) (cursor_of c) w w (cursor_of c) (said_picked (Err e))
+  next_refused = refused_step (λ s. on.next n (cursor_of c) s) (λ x s o. let r = (exactly_stale w s o n (cursor_of c)).0 in sym (r.unmoved (r.exactly.1 x)))
+
+  pub back_refused : (e : Refused) → Checked w n c (Err e) → Walk (λ s. on.previous n (cursor_of c) s) (cursor_of c) w w (cursor_of c) (said_picked (Err e))
+  back_refused = refused_step (λ s. on.previous n (cursor_of c) s) (λ x s o. let r = (exactly_stale w s o n (cursor_of c)).1 in sym (r.unmoved (r.exactly.1 x)))
+
+  -- the cursor with the count that it was checked with
+  pub same_cursor : {st : Stand} → Allows w n c st → record { changes = n; stand = stand_of st } ≡ cursor_of c
+  same_cursor a = λ t. record { changes = sym a.same t; stand = ap stand_of a.stand_is t }
+
+  pub made_step : (f : on.Cursor → State → on.Moved) {st : Stand} (m : Stand × Option (ℕ × ℕ)) → Allows w n c st → ((s : State) → Holds w s → moved_of n m ≡ f (record { changes = n; stand = stand_of st }) s)
+      → Walk (f (cursor_of c)) (cursor_of c) w w (record { changes = c.changes; stand = stand_of m.0 }) (said_picked (Ok m.1))
+  made_step f m a g =
+      subst (λ (k : ℕ). Walk (f (cursor_of c)) (cursor_of c) w w (record { changes = k; stand = stand_of m.0 }) (said_picked (Ok m.1))) (sym a.same)
+      (walk_done (f (cursor_of c)) (cursor_of c) n m a.formed (λ s o. g s o ∙ ap (λ (d : on.Cursor). f d s) (same_cursor a)))
 
 -- an open bound admits the first pair
 from_all : (ps : List on.Post) → on.from AllIncluded ps ≡ ps
@@ -165,45 +204,3 @@ from_all (p ∷ ps) = refl
 
 pub first_sought : (n : ℕ) (s : State) → on.seek n AllIncluded s ≡ on.first n s
 first_sought n s = ap (on.moved n on.past) (from_all (on.posts s))
-
--- the code's cursor c stands there, with this count
-abbrev pub Standing : ℕ → Cursor → on.Stand → Type 0
-Standing n c st = (c.changes ≡ n) × (stand_of c.stand ≡ st)
-
-stood : (n : ℕ) (c : Cursor) {st : on.Stand} → Standing n c st → cursor_of c ≡ record { changes = n; stand = st }
-stood n c x = λ t. record { changes = x.0 t; stand = x.1 t }
-
-as_stood : (n : ℕ) (c : Cursor) {st : on.Stand} (f : on.Cursor → on.Moved) (m : on.Moved) → Standing n c st → m ≡ f (record { changes = n; stand = st }) → m ≡ f (cursor_of c)
-as_stood n c f m x e = e ∙ ap f (sym (stood n c x))
-
--- refused as Absent
-stays : (n : ℕ) (c : Cursor) {st : on.Stand} (m : Moved) → Standing n c st → m ≡ record { cursor = c; found = record { answer = Absent; key = 0 } } → moved_of m ≡ record { cursor = record { changes = n; stand = st }; found = picked none }
-stays n c m x e = ap moved_of e ∙ ap {B = on.Moved} (λ d. record { cursor = d; found = picked none }) (stood n c x)
-
--- a step of it
-module _ (s : State) (n : ℕ) (c : Cursor) where
-  -- at an end it stays, or comes back
-  pub next_stays : (m : Moved) → Standing n c on.past → m ≡ record { cursor = c; found = record { answer = Absent; key = 0 } } → moved_of m ≡ on.next n (cursor_of c) s
-  next_stays m x e = as_stood n c (λ d. on.next n d s) (moved_of m) x (stays n c m x e ∙ sym (at_the_ends s n).past_stays)
-
-  pub back_stays : (m : Moved) → Standing n c on.before → m ≡ record { cursor = c; found = record { answer = Absent; key = 0 } } → moved_of m ≡ on.previous n (cursor_of c) s
-  back_stays m x e = as_stood n c (λ d. on.previous n d s) (moved_of m) x (stays n c m x e ∙ sym (at_the_ends s n).before_stays)
-
-  pub next_first : (m : Moved) → Standing n c on.before → moved_of m ≡ on.seek n AllIncluded s → moved_of m ≡ on.next n (cursor_of c) s
-  next_first m x e = as_stood n c (λ d. on.next n d s) (moved_of m) x (e ∙ (first_sought n s ∙ sym (at_the_ends s n).back_to_first))
-
-  pub back_last : (m : Moved) → Standing n c on.past → moved_of m ≡ on.last n s → moved_of m ≡ on.previous n (cursor_of c) s
-  back_last m x e = as_stood n c (λ d. on.previous n d s) (moved_of m) x (e ∙ sym (at_the_ends s n).back_to_last)
-
-  pub next_moves : (m : Moved) (node : NodeNo) (i : Place) → Standing n c (on.on (stop_of node i)) → moved_of m ≡ on.next n (standing n node i) s → moved_of m ≡ on.next n (cursor_of c) s
-  next_moves m node i x e = as_stood n c (λ d. on.next n d s) (moved_of m) x e
-
-  pub back_moves : (m : Moved) (node : NodeNo) (i : Place) → Standing n c (on.on (stop_of node i)) → moved_of m ≡ on.previous n (standing n node i) s → moved_of m ≡ on.previous n (cursor_of c) s
-  back_moves m node i x e = as_stood n c (λ d. on.previous n d s) (moved_of m) x e
-
-  -- refused
-  pub next_stale : {w : List ℕ} → Holds w s → (m : Moved) → Stale w n (cursor_of c) → m ≡ record { cursor = c; found = record { answer = StaleCursor; key = 0 } } → moved_of m ≡ on.next n (cursor_of c) s
-  next_stale {w} o m x e = let r = (exactly_stale w s o n (cursor_of c)).0 in ap moved_of e ∙ sym (r.unmoved (r.exactly.1 x))
-
-  pub back_stale : {w : List ℕ} → Holds w s → (m : Moved) → Stale w n (cursor_of c) → m ≡ record { cursor = c; found = record { answer = StaleCursor; key = 0 } } → moved_of m ≡ on.previous n (cursor_of c) s
-  back_stale {w} o m x e = let r = (exactly_stale w s o n (cursor_of c)).1 in ap moved_of e ∙ sym (r.unmoved (r.exactly.1 x))

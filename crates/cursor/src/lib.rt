@@ -6,17 +6,17 @@ ghost use Rattle.model.specs.Search.{Spot};
 ghost use Rattle.model.specs.State.{State, At};
 ghost use Rattle.model.specs.WellFormed.{WellFormed};
 ghost use Rattle.model.specs.Promise.{Holds};
+ghost use Rattle.model.specs.Answer.{said_picked};
 ghost use Rattle.model.specs.Public.{Promised};
 ghost use Rattle.model.specs.Public as promise;
 ghost use Rattle.model.specs.Cursor as on;
 ghost use Rattle.inspect.specs.Tests.{Decides};
 ghost use Rattle.navigate.specs.Places.{In, InTree, stepped};
 ghost use Rattle.walking.specs.Arrived.{arrived};
-ghost use Rattle.cursor.specs.Cursors.{stop_of, stand_of, cursor_of, moved_of, standing, Stepping, InNode};
+ghost use Rattle.cursor.specs.Cursors.{stop_of, stand_of, cursor_of, moved_of, standing, Stepping, InNode, Ready, Checked};
 
-use checker::well_formed;
-use header::{COUNT, HEIGHT};
-use model::{Answer, Picked, SearchBound};
+use checker::check;
+use model::{Refused, SearchBound};
 use navigate::{lower_leaf_edge, next_back_kv, next_back_leaf_edge, next_kv, next_leaf_edge};
 use node::{FREE, INTERNAL, NodeNo, Place, edge, key, len, state, val};
 use search::Handle;
@@ -36,74 +36,44 @@ pub struct Cursor {
     pub stand: Stand,
 }
 
-// What a call hands back: the cursor, and the pair.
-#[derive(Clone, Copy)]
-pub struct Moved {
-    pub cursor: Cursor,
-    pub found: Picked,
-}
+// What a call finds, key and value: the pair that the cursor has come to, or none at an end.
+pub type Found = Result<Option<(u64, u64)>, Refused>;
 
-// A refused call.
-fn refused(cursor: Cursor, answer: Answer) -> Moved
-    ensures { result ≡ record { cursor = cursor; found = record { answer = answer; key = 0 } } }
-{
-    Moved {
-        cursor,
-        found: Picked { answer, key: 0 },
-    }
-}
+// Where a move leads, and the pair there.
+type Moved = (Stand, Option<(u64, u64)>);
 
-// The end that a step leads to, or the pair.
-fn arrive(a: &[u64], changes: u64, end: Stand, to: Option<Handle>) -> Moved
+// The pair that a step leads to, or the end.
+fn arrive(a: &[u64], end: Stand, to: Option<Handle>) -> Moved
     requires { In a.now (λ s. Stepping s to) }
-    ensures { (s : State) → Holds a.now s → (p : Spot) → InTree s.whole p → to ≡ stepped p → moved_of result ≡ arrived changes (stand_of end) p }
+    ensures { (s : State) → Holds a.now s → (p : Spot) → InTree s.whole p → to ≡ stepped p → (n : ℕ) → moved_of n result ≡ arrived n (stand_of end) p }
 {
-    let Some(kv) = to else {
-        return Moved {
-            cursor: Cursor {
-                changes,
-                stand: end,
-            },
-            found: Picked {
-                answer: Answer::Absent,
-                key: 0,
-            },
-        };
-    };
-    let node = kv.node;
-    let at = kv.at;
-    let k = key(a, node, at);
-    let v = val(a, node, at);
-    Moved {
-        cursor: Cursor {
-            changes,
-            stand: Stand::At(node, at),
-        },
-        found: Picked {
-            answer: Answer::Value(v),
-            key: k,
-        },
+    match to {
+        Some(kv) => (
+            Stand::At(kv.node, kv.at),
+            Some((key(a, kv.node, kv.at), val(a, kv.node, kv.at))),
+        ),
+        None => (end, None),
     }
 }
 
 // To the first pair that a start bound admits.
-fn from_start(a: &[u64], changes: u64, start: SearchBound) -> Moved
+fn from_start(a: &[u64], start: SearchBound) -> Moved
     requires { WellFormed a.now }
-    ensures { (s : State) → Holds a.now s → moved_of result ≡ on.seek changes start s }
+    ensures { (s : State) → Holds a.now s → (n : ℕ) → moved_of n result ≡ on.seek n start s }
 {
     let edge = lower_leaf_edge(a, start);
     let to = next_kv(a, edge);
-    arrive(a, changes, Stand::Past, to)
+    arrive(a, Stand::Past, to)
 }
 
 // To the last pair: behind it is the edge of a bound that admits none.
-fn from_end(a: &[u64], changes: u64) -> Moved
+fn from_end(a: &[u64]) -> Moved
     requires { WellFormed a.now }
-    ensures { (s : State) → Holds a.now s → moved_of result ≡ on.last changes s }
+    ensures { (s : State) → Holds a.now s → (n : ℕ) → moved_of n result ≡ on.last n s }
 {
     let edge = lower_leaf_edge(a, SearchBound::AllExcluded);
     let to = next_back_kv(a, edge);
-    arrive(a, changes, Stand::Before, to)
+    arrive(a, Stand::Before, to)
 }
 
 // Whether a place holds a pair: its node is one of the arena's and not free, and the place is below its length.
@@ -111,18 +81,7 @@ fn holds_pair(a: &[u64], node: NodeNo, at: Place) -> bool
     requires { WellFormed a.now }
     ensures { Decides result (on.PairAt a.now (stop_of node at)) }
 {
-    let n = node.0 as u64;
-    if n >= a[COUNT] {
-        return false;
-    }
-    if state(a, node) == FREE {
-        return false;
-    }
-    let i = at.0;
-    if i >= len(a, node) {
-        return false;
-    }
-    true
+    node.0 < header::count(a) && state(a, node) != FREE && at.0 < len(a, node)
 }
 
 // The levels below a node, counted down its first edges.
@@ -130,131 +89,130 @@ fn height_of(a: &[u64], node: NodeNo) -> usize
     requires { In a.now (λ s. InNode s node.0) }
     ensures { (s : State) → Holds a.now s → (h : ℕ) → At s node.0 h → result ≡ h }
 {
-    let top = a[HEIGHT] as usize;
+    let top = header::height(a);
     let mut below = node;
-    let mut height: usize = 0;
-    loop {
+    for height in 0..top {
         if state(a, below) != INTERNAL {
             return height;
         }
         below = edge(a, below, Place(0));
-        height += 1;
     }
+    top
 }
 
 // The pair after the one at a place.
-fn step_on(a: &[u64], changes: u64, node: NodeNo, at: Place) -> Moved
+fn step_on(a: &[u64], node: NodeNo, at: Place) -> Moved
     requires { WellFormed a.now × on.PairAt a.now (stop_of node at) }
-    ensures { (s : State) → Holds a.now s → moved_of result ≡ on.next changes (standing changes node at) s }
+    ensures { (s : State) → Holds a.now s → (n : ℕ) → moved_of n result ≡ on.next n (standing n node at) s }
 {
     let height = height_of(a, node);
     let edge = next_leaf_edge(a, Handle { node, height, at });
     let to = next_kv(a, edge);
-    arrive(a, changes, Stand::Past, to)
+    arrive(a, Stand::Past, to)
 }
 
 // The pair before it.
-fn step_back(a: &[u64], changes: u64, node: NodeNo, at: Place) -> Moved
+fn step_back(a: &[u64], node: NodeNo, at: Place) -> Moved
     requires { WellFormed a.now × on.PairAt a.now (stop_of node at) }
-    ensures { (s : State) → Holds a.now s → moved_of result ≡ on.previous changes (standing changes node at) s }
+    ensures { (s : State) → Holds a.now s → (n : ℕ) → moved_of n result ≡ on.previous n (standing n node at) s }
 {
     let height = height_of(a, node);
     let edge = next_back_leaf_edge(a, Handle { node, height, at });
-    arrive(a, changes, Stand::Before, next_back_kv(a, edge))
+    arrive(a, Stand::Before, next_back_kv(a, edge))
+}
+
+impl Stand {
+    // Where a step on leads; past the last pair it stays.
+    fn next(self, a: &[u64]) -> Moved
+        requires { WellFormed a.now × Ready a.now self }
+        ensures { (s : State) → Holds a.now s → (n : ℕ) → moved_of n result ≡ on.next n (record { changes = n; stand = stand_of self }) s }
+    {
+        match self {
+            Stand::Before => from_start(a, SearchBound::AllIncluded),
+            Stand::At(node, at) => step_on(a, node, at),
+            Stand::Past => (Stand::Past, None),
+        }
+    }
+
+    // Where a step back leads; before the first pair it stays.
+    fn previous(self, a: &[u64]) -> Moved
+        requires { WellFormed a.now × Ready a.now self }
+        ensures { (s : State) → Holds a.now s → (n : ℕ) → moved_of n result ≡ on.previous n (record { changes = n; stand = stand_of self }) s }
+    {
+        match self {
+            Stand::Before => (Stand::Before, None),
+            Stand::At(node, at) => step_back(a, node, at),
+            Stand::Past => from_end(a),
+        }
+    }
 }
 
 // A cursor at the first pair.
-pub fn first(a: &[u64], changes: u64) -> Moved
-    ensures { Promised (promise.first changes) a.now a.now (cursor_of result.cursor) result.found }
+pub fn first(a: &[u64], changes: u64) -> (Cursor, Found)
+    ensures { Promised (promise.first changes) a.now a.now (cursor_of result.0) (said_picked result.1) }
 {
-    if !well_formed(a) {
-        return refused(
-            Cursor {
-                changes,
-                stand: Stand::Past,
-            },
-            Answer::BadArena,
-        );
-    }
-    from_start(a, changes, SearchBound::AllIncluded)
+    let mut cursor = Cursor {
+        changes,
+        stand: Stand::Past,
+    };
+    let found = cursor.seek(a, changes, SearchBound::AllIncluded);
+    (cursor, found)
 }
 
 // A cursor at the last pair.
-pub fn last(a: &[u64], changes: u64) -> Moved
-    ensures { Promised (promise.last changes) a.now a.now (cursor_of result.cursor) result.found }
+pub fn last(a: &[u64], changes: u64) -> (Cursor, Found)
+    ensures { Promised (promise.last changes) a.now a.now (cursor_of result.0) (said_picked result.1) }
 {
-    if !well_formed(a) {
-        return refused(
-            Cursor {
-                changes,
-                stand: Stand::Before,
-            },
-            Answer::BadArena,
-        );
+    if let Err(refused) = check(a) {
+        let stand = Stand::Before;
+        return (Cursor { changes, stand }, Err(refused));
     }
-    from_end(a, changes)
+    let (stand, found) = from_end(a);
+    (Cursor { changes, stand }, Ok(found))
 }
 
 impl Cursor {
-    // To the first pair that a start bound admits, wherever the cursor stood and whatever its count was.
-    pub fn seek(self, a: &[u64], changes: u64, start: SearchBound) -> Moved
-        ensures { Promised (promise.seek changes start) a.now a.now (cursor_of result.cursor) result.found }
+    // To the first pair that a start bound admits, wherever the cursor stood and whatever its count was. Refused, it stands past the last pair.
+    pub fn seek(&mut self, a: &[u64], changes: u64, start: SearchBound) -> Found
+        ensures { Promised (promise.seek changes start) a.now a.now (cursor_of self.new) (said_picked result) }
     {
-        if !well_formed(a) {
-            return refused(
-                Cursor {
-                    changes,
-                    stand: Stand::Past,
-                },
-                Answer::BadArena,
-            );
-        }
-        from_start(a, changes, start)
+        self.changes = changes;
+        self.stand = Stand::Past;
+        check(a)?;
+        let (stand, found) = from_start(a, start);
+        self.stand = stand;
+        Ok(found)
     }
 
-    // To the next pair.
-    pub fn next(self, a: &[u64], changes: u64) -> Moved
-        ensures { Promised (promise.next changes (cursor_of self)) a.now a.now (cursor_of result.cursor) result.found }
+    // Where it stands, unless a step from there is refused: the count must be the cursor's, and a place must still hold a pair.
+    fn checked(&self, a: &[u64], changes: u64) -> Result<Stand, Refused>
+        ensures { Checked a.now changes self.now result }
     {
-        if !well_formed(a) {
-            return refused(self, Answer::BadArena);
+        check(a)?;
+        if changes != self.changes {
+            return Err(Refused::StaleCursor);
         }
-        if self.changes != changes {
-            return refused(self, Answer::StaleCursor);
+        match self.stand {
+            Stand::At(node, at) if !holds_pair(a, node, at) => Err(Refused::StaleCursor),
+            stand => Ok(stand),
         }
-        let stand = self.stand;
-        match stand {
-            Stand::Before => from_start(a, changes, SearchBound::AllIncluded),
-            Stand::At(node, at) => {
-                if !holds_pair(a, node, at) {
-                    return refused(self, Answer::StaleCursor);
-                }
-                step_on(a, changes, node, at)
-            }
-            Stand::Past => refused(self, Answer::Absent),
-        }
+    }
+
+    // To the next pair. Refused, the cursor stays where it was.
+    pub fn next(&mut self, a: &[u64], changes: u64) -> Found
+        ensures { Promised (promise.next changes (cursor_of self.old)) a.now a.now (cursor_of self.new) (said_picked result) }
+    {
+        let (stand, found) = self.checked(a, changes)?.next(a);
+        self.stand = stand;
+        Ok(found)
     }
 
     // To the pair before.
-    pub fn previous(self, a: &[u64], changes: u64) -> Moved
-        ensures { Promised (promise.previous changes (cursor_of self)) a.now a.now (cursor_of result.cursor) result.found }
+    pub fn previous(&mut self, a: &[u64], changes: u64) -> Found
+        ensures { Promised (promise.previous changes (cursor_of self.old)) a.now a.now (cursor_of self.new) (said_picked result) }
     {
-        if !well_formed(a) {
-            return refused(self, Answer::BadArena);
-        }
-        if changes != self.changes {
-            return refused(self, Answer::StaleCursor);
-        }
-        let stand = self.stand;
-        match stand {
-            Stand::Before => refused(self, Answer::Absent),
-            Stand::At(node, at) => {
-                if !holds_pair(a, node, at) {
-                    return refused(self, Answer::StaleCursor);
-                }
-                step_back(a, changes, node, at)
-            }
-            Stand::Past => from_end(a, changes),
-        }
+        let (stand, found) = self.checked(a, changes)?.previous(a);
+        self.stand = stand;
+        Ok(found)
     }
 }

@@ -6,9 +6,9 @@ use mathlib.Core.Path.{◌≡◌, refl, sym, ap, ◌∙◌, subst}
 use mathlib.Core.Logic.{inl, inr}
 use mathlib.Core.List.{List}
 use lib.Dec.{lit<}
-use lib.ListN.{length, get_or, length-append}
+use lib.ListN.{length, length-append}
 use Rattle.model.specs.declared.Answer.TheVariants.{Done, NoRoom, BadArena, BadSize}
-use Rattle.model.specs.Layout.{Sized, pairs_word}
+use Rattle.model.specs.Layout.{Sized, header, pairs_word}
 use Rattle.model.specs.Tree.{before, after}
 use Rattle.model.specs.State.{State}
 use Rattle.model.specs.Load.{loaded_with}
@@ -24,14 +24,14 @@ use Rattle.loading.proofs.Parting.{path_list}
 use Rattle.cut.specs.Moves.{Upper}
 
 -- the pairs that go, by the pair count and the rank of the key
-module _ (k : ℕ) {w : List ℕ} {s : State} (o : Holds w s) (r : ℕ) (e : r ≡ length (before (path_of k s.whole))) where
-  all_pairs : get_or w pairs_word 0 ≡ r + length (part_off k s)
-  all_pairs = header_is o pairs_word (lit< tt) ∙ ap length (sym (path_list k s.whole o.sound.rising)) ∙ length-append (before (path_of k s.whole)) (after (path_of k s.whole)) ∙ ap (λ (n : ℕ). n + length (part_off k s)) (sym e)
+module _ (k : ℕ) {w : List ℕ} {s : State} (o : Holds w s) (p r : ℕ) (q : p ≡ header w pairs_word) (e : r ≡ length (before (path_of k s.whole))) where
+  all_pairs : p ≡ r + length (part_off k s)
+  all_pairs = q ∙ header_is o pairs_word (lit< tt) ∙ ap length (sym (path_list k s.whole o.sound.rising)) ∙ length-append (before (path_of k s.whole)) (after (path_of k s.whole)) ∙ ap (λ (n : ℕ). n + length (part_off k s)) (sym e)
 
-  pub rank_few : r ≤ get_or w pairs_word 0
+  pub rank_few : r ≤ p
   rank_few = omega (arith, all_pairs)
 
-  pub part_pairs : get_or w pairs_word 0 - r ≡ length (part_off k s)
+  pub part_pairs : p - r ≡ length (part_off k s)
   part_pairs = omega (arith, all_pairs)
 
 module _ (k : ℕ) (w v : List ℕ) where

@@ -4,8 +4,8 @@ use Prim.Native.Nat.{ℕ, ◌-◌, ◌≤◌}
 use native.Mathlib.Omega.{arith}
 use mathlib.Core.Path.{◌≡◌, refl, sym, ap, ◌∙◌, subst}
 use mathlib.Core.List.{List, [], ◌∷◌, ◌++◌, append-nil, append_assoc}
-use lib.ListN.{length, get_or, length-append}
-use Rattle.model.specs.Layout.{seen_word, mark_word, header_size}
+use lib.ListN.{length, length-append}
+use Rattle.model.specs.Layout.{header, seen_word, mark_word, header_size}
 use Rattle.model.specs.Tree.{Pair, after}
 use Rattle.model.specs.State.{State, formatted}
 use Rattle.model.specs.Words.{words_of}
@@ -28,20 +28,25 @@ use Rattle.loading.proofs.Cuts.{part_sound}
 use Rattle.appending.specs.Pushes.{LoadIn}
 use Rattle.appending.specs.Runs.{Ended, Tells}
 use Rattle.appending.proofs.Runs.{push_last, formatted_begun}
-use Rattle.merging.specs.declared.Head.TheVariants as head
-use Rattle.merging.specs.Heads.{HeadOf}
+use Rattle.std.proofs.Common.{Some, None}
+use Rattle.listing.specs.Heads.{HeadOf}
 use Rattle.cut.specs.Moves.{Moving, Upper}
 
+none_left : (l : List Pair) → length l ≤ 0 → l ≡ []
+none_left [] u = refl
+none_left (p ∷ l) u = absurd (omega arith)
+
 module _ {s : State} {g : Rest} {all : List Pair} {w : List ℕ} {leaf left : ℕ} {at : Handle} (M : Moving s g all w leaf left at) where
-  pub moves_end : HeadOf s (after M.edge.way) head.End → Ended w g (push_all all begun)
+  pub moves_end : HeadOf s (after M.edge.way) None → Ended w g (push_all all begun)
   moves_end e =
       let z : M.done ≡ all = sym (append-nil M.done) ∙ ap (λ (q : List Pair). M.done ++ q) (sym e) ∙ M.split in
       record { leaf = leaf; load = subst (λ (q : List Pair). LoadIn w g leaf (push_all q begun)) z M.load }
 
-  module _ (kv : Kv) (next : Handle) (h : HeadOf s (after M.edge.way) (head.Pair kv next)) where
-    pub moves_some : 1 ≤ left
-    moves_some = omega (arith, M.many, ap length h.1)
+  -- as many are pushed as there were
+  pub moves_out : left ≤ 0 → Ended w g (push_all all begun)
+  moves_out l = moves_end (none_left (after M.edge.way) (omega (arith, M.many, l)))
 
+  module _ (kv : Kv) (next : Handle) (h : HeadOf s (after M.edge.way) (Some (kv, next))) where
     more : (M.done ++ pair_of kv ∷ []) ++ after h.0.way ≡ all
     more = append_assoc M.done (pair_of kv ∷ []) (after h.0.way) ∙ ap (λ (q : List Pair). M.done ++ q) (sym h.1) ∙ M.split
 
@@ -56,12 +61,12 @@ module _ {s : State} {g : Rest} {all : List Pair} {w : List ℕ} {leaf left : �
           M.room,
         )
 
-    pub moves_on : {w' : List ℕ} {leaf' : ℕ} → LoadIn w' g leaf' (push (pair_of kv) (push_all M.done begun)) → Moving s g all w' leaf' (left - 1) next
-    moves_on {w'} {leaf'} l = record {
+    pub moves_on : {w' : List ℕ} {leaf' : ℕ} (left' : ℕ) → left' ≡ left - 1 → LoadIn w' g leaf' (push (pair_of kv) (push_all M.done begun)) → Moving s g all w' leaf' left' next
+    moves_on {w'} {leaf'} left' e l = record {
       done = M.done ++ pair_of kv ∷ [];
       edge = h.0;
       split = more;
-      many = omega (arith, M.many, ap length h.1);
+      many = omega (arith, e, M.many, ap length h.1);
       load = subst (LoadIn w' g leaf') (sym (push_last M.done (pair_of kv) begun)) l;
       room = M.room;
     }
@@ -78,9 +83,6 @@ module _ (k : ℕ) {v : List ℕ} {s : State} (o : Holds v s) {w : List ℕ} {pa
     load = (formatted_begun n [] U.sized.some U.sized.few z (omega (arith, nodes_more 0 pairs (omega arith), U.room))).load;
     room = subst (λ (m : ℕ). nodes_for m ≤ n) U.pairs_are U.room;
   }
-
-  pub upper_tells : Tells s.mark (part_off k s) pairs (get_or v seen_word 0) (get_or v mark_word 0)
-  upper_tells = record { pairs_are = U.pairs_are; seen_is = seen_is o; mark_is = mark_is o }
 
   pub upper_sound : Sound (loaded_with s.mark n (part_off k s))
   upper_sound = part_sound k s o.sound n (subst (λ (m : ℕ). nodes_for m ≤ n) U.pairs_are U.room) U.sized.few

@@ -9,6 +9,7 @@ ghost use Rattle.model.specs.Load.{push_all, begun, loaded_with};
 ghost use Rattle.model.specs.Parting.{cut_off, part_off};
 ghost use Rattle.model.specs.WellFormed.{WellFormed};
 ghost use Rattle.model.specs.Promise.{Holds};
+ghost use Rattle.model.specs.Answer.{said_done};
 ghost use Rattle.model.specs.Public.{Promised};
 ghost use Rattle.model.specs.Public as promise;
 ghost use Rattle.standing.specs.Heads.{Rest};
@@ -18,11 +19,11 @@ ghost use Rattle.cut.specs.Moves.{Moving, MovingIn, Upper, UpperIn};
 
 use append::{finish, nodes_for, push};
 use border::fix_right_border;
-use checker::well_formed;
+use checker::check;
 use format::write_all;
-use header::{MARK, PAIRS, ROOT, SEEN, node_count};
-use merging::{Head, peek};
-use model::{Answer, SearchBound};
+use header::{PAIRS, node_count};
+use listing::peek;
+use model::{Refused, SearchBound};
 use navigate::lower_leaf_edge;
 use node::{NodeNo, total};
 use ranks::passed;
@@ -36,12 +37,9 @@ fn cut_half(a: &mut [u64], key: u64)
     ensures { (s : State) → Holds a.old s → a.new ≡ words_of (half key s) }
 {
     let edge = lower_leaf_edge(a, SearchBound::Included(key));
-    let node = edge.node;
-    let at = edge.at;
-    cut_along(a, node, at);
+    cut_along(a, edge.node, edge.at);
     sweep(a, key);
-    let root = NodeNo(a[ROOT] as usize);
-    a[PAIRS] = total(a, root);
+    a[PAIRS] = total(a, header::root(a));
 }
 
 // The pairs from a key on go.
@@ -60,14 +58,12 @@ fn push_after(a: &[u64], b: &mut [u64], from: Handle, pairs: usize)
 {
     let mut leaf = NodeNo(0);
     let mut at = from;
-    let mut left = pairs;
-    loop {
-        let Head::Pair(kv, next) = peek(a, at) else {
+    for _ in 0..pairs {
+        let Some((kv, next)) = peek(a, at) else {
             return;
         };
         leaf = push(b, leaf, kv);
         at = next;
-        left -= 1;
     }
 }
 
@@ -79,25 +75,20 @@ fn load_upper(a: &[u64], b: &mut [u64], key: u64, pairs: usize, nodes: usize)
     let from = lower_leaf_edge(a, SearchBound::Included(key));
     write_all(b, nodes);
     push_after(a, b, from, pairs);
-    finish(b, pairs as u64, a[SEEN], a[MARK]);
+    finish(b, pairs as u64, header::stored_mark(a));
 }
 
 // Cuts the pairs from a key on off the first arena, into the second slice, whose words do not matter.
-pub fn cut(first: &mut [u64], second: &mut [u64], key: u64) -> Answer
-    ensures { Promised (promise.cut key second.old) first.old first.new second.new result }
+pub fn cut(first: &mut [u64], second: &mut [u64], key: u64) -> Result<(), Refused>
+    ensures { Promised (promise.cut key second.old) first.old first.new second.new (said_done result) }
 {
-    let nodes = node_count(second.len());
-    if nodes == 0 {
-        return Answer::BadSize;
-    }
-    if !well_formed(first) {
-        return Answer::BadArena;
-    }
-    let pairs = (first[PAIRS] - passed(first, SearchBound::Included(key))) as usize;
+    let nodes = node_count(second.len()).ok_or(Refused::BadSize)?;
+    check(first)?;
+    let pairs = (header::pairs(first) - passed(first, SearchBound::Included(key))) as usize;
     if nodes_for(pairs) > nodes {
-        return Answer::NoRoom;
+        return Err(Refused::NoRoom);
     }
     load_upper(first, second, key, pairs, nodes);
     cut_first(first, key);
-    Answer::Done
+    Ok(())
 }

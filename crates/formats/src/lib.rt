@@ -1,97 +1,151 @@
-// Reading a node's words in either format: the format is an argument of the code and of its contract alike.
+// An arena in either format: reading its nodes' words. The format is a type parameter, so that the size of a node is a constant in the code.
 #![tactic(auto)]
 
-ghost use Rattle.std.specs.Prelude.{◌≡◌, ◌+◌, ◌<◌, ◌≤◌};
-ghost use Rattle.model.specs.Layout.{format_number_by, base_by, node_size_by, word_at_by, most, state_word, length_word, parent_word, place_word, keys_word, edges_word, total_word};
-ghost use Rattle.formats.specs.Within.{WithinBy};
+ghost use Rattle.std.specs.Prelude.{◌≡◌, ℕ, ◌+◌, ◌<◌, ◌≤◌, length, refl, MatchOption};
+ghost use Rattle.model.specs.declared.Layout.{Layout};
+ghost use Rattle.model.specs.declared.Layout.TheVariants as layouts;
+ghost use Rattle.model.specs.Layout.{SizedBy, Counts, format_number_by, base_by, node_size_by, word_at_by, most, state_word, length_word, parent_word, place_word, keys_word, edges_word, total_word};
 
-use model::Layout;
-use node::{EDGES, HEADER, KEYS, LEN, NodeNo, PARENT, PARENT_IDX, Place, STATE};
+use node::{EDGES, HEADER, KEYS, LEN, NodeNo, PARENT, PARENT_IDX, Place, STATE, TOTAL, WORDS};
+use std::marker::PhantomData;
 
-// The number of a format.
-pub fn number(f: Layout) -> u64
-    ensures { result ≡ format_number_by f }
-{
-    match f {
-        Layout::Format1 => 1,
-        Layout::Format2 => 2,
+// A format of arenas: its number, and how many words a node has.
+pub trait Format {
+    ghost layout: { Layout };
+
+    ghost NUMBER: { ℕ };
+
+    const NUMBER: u64;
+
+    ghost WORDS: { ℕ };
+
+    const WORDS: usize;
+
+    ghost number_is: { NUMBER ≡ format_number_by layout };
+
+    ghost words_is: { WORDS ≡ node_size_by layout };
+}
+
+pub struct Format1;
+
+pub struct Format2;
+
+impl Format for Format1 {
+    ghost layout = { layouts.Format1 };
+
+    ghost NUMBER = { 1 };
+
+    const NUMBER: u64 = 1;
+
+    ghost WORDS = { 38 };
+
+    const WORDS: usize = 38;
+
+    ghost number_is = { refl };
+
+    ghost words_is = { refl };
+}
+
+impl Format for Format2 {
+    ghost layout = { layouts.Format2 };
+
+    ghost NUMBER = { 2 };
+
+    const NUMBER: u64 = 2;
+
+    ghost WORDS = { 39 };
+
+    const WORDS: usize = WORDS;
+
+    ghost number_is = { refl };
+
+    ghost words_is = { refl };
+}
+
+// Words that are as many as an arena of so many nodes has. That alone is known of them.
+#[derive(Drop)]
+pub struct Arena<'a, F: Format> {
+    pub words: &'a [u64],
+    pub count: usize,
+    pub format: PhantomData<F>,
+    pub ghost sized: { SizedBy F.layout count (length words.now) },
+}
+
+impl<F: Format> Arena<'_, F> {
+    // The index of a node's first word.
+    pub fn base(&self, n: NodeNo) -> usize
+        requires { n.0 < self.now.count }
+        ensures { result ≡ base_by F.layout n.0 }
+    {
+        HEADER + F::WORDS * n.0
     }
-}
 
-// The words of a node.
-pub fn node_words(f: Layout) -> usize
-    ensures { result ≡ node_size_by f }
-{
-    match f {
-        Layout::Format1 => 38,
-        Layout::Format2 => 39,
+    // The word k of a node.
+    #[tactic(auto, unfolding(model::specs::Layout::word_at_by))]
+    fn word(&self, n: NodeNo, k: usize) -> u64
+        requires { (n.0 < self.now.count) × (k < node_size_by F.layout) }
+        ensures { result ≡ word_at_by F.layout self.now.words.now n.0 k }
+    {
+        self.words[self.base(n) + k]
     }
-}
 
-// The index of a node's first word.
-pub fn base_of(f: Layout, n: NodeNo) -> usize
-    requires { base_by f n.0 < 18446744073709551616 }
-    ensures { result ≡ base_by f n.0 }
-{
-    match f {
-        Layout::Format1 => HEADER + 38 * n.0,
-        Layout::Format2 => HEADER + 39 * n.0,
+    // Free, leaf or internal.
+    pub fn state(&self, n: NodeNo) -> u64
+        requires { n.0 < self.now.count }
+        ensures { result ≡ word_at_by F.layout self.now.words.now n.0 state_word }
+    {
+        self.word(n, STATE)
     }
-}
 
-// The word k of a node.
-fn word_of(f: Layout, a: &[u64], n: NodeNo, k: usize) -> u64
-    requires { WithinBy f a.now n.0 × (k < total_word) }
-    ensures { result ≡ word_at_by f a.now n.0 k }
-{
-    let b = base_of(f, n);
-    a[b + k]
-}
+    // How many pairs a node holds.
+    pub fn len(&self, n: NodeNo) -> usize
+        requires { n.0 < self.now.count }
+        ensures { result ≡ word_at_by F.layout self.now.words.now n.0 length_word }
+    {
+        self.word(n, LEN) as usize
+    }
 
-// Free, leaf or internal.
-pub fn state_of(f: Layout, a: &[u64], n: NodeNo) -> u64
-    requires { WithinBy f a.now n.0 }
-    ensures { result ≡ word_at_by f a.now n.0 state_word }
-{
-    word_of(f, a, n, STATE)
-}
+    // The parent's number, or NONE; in a free node, the next free one or NONE.
+    pub fn parent(&self, n: NodeNo) -> u64
+        requires { n.0 < self.now.count }
+        ensures { result ≡ word_at_by F.layout self.now.words.now n.0 parent_word }
+    {
+        self.word(n, PARENT)
+    }
 
-// How many pairs a node holds.
-pub fn len_of(f: Layout, a: &[u64], n: NodeNo) -> usize
-    requires { WithinBy f a.now n.0 }
-    ensures { result ≡ word_at_by f a.now n.0 length_word }
-{
-    word_of(f, a, n, LEN) as usize
-}
+    // The index of the parent's edge that leads here; 0 at the root.
+    pub fn parent_idx(&self, n: NodeNo) -> u64
+        requires { n.0 < self.now.count }
+        ensures { result ≡ word_at_by F.layout self.now.words.now n.0 place_word }
+    {
+        self.word(n, PARENT_IDX)
+    }
 
-// The parent's number, or NONE; in a free node, the next free one or NONE.
-pub fn parent_of(f: Layout, a: &[u64], n: NodeNo) -> u64
-    requires { WithinBy f a.now n.0 }
-    ensures { result ≡ word_at_by f a.now n.0 parent_word }
-{
-    word_of(f, a, n, PARENT)
-}
+    // The node that an edge leads to.
+    pub fn edge(&self, n: NodeNo, at: Place) -> NodeNo
+        requires { (n.0 < self.now.count) × (at.0 ≤ most) }
+        ensures { result.0 ≡ word_at_by F.layout self.now.words.now n.0 (edges_word + at.0) }
+    {
+        NodeNo(self.word(n, EDGES + at.0) as usize)
+    }
 
-// The index of the parent's edge that leads here; 0 at the root.
-pub fn parent_idx_of(f: Layout, a: &[u64], n: NodeNo) -> u64
-    requires { WithinBy f a.now n.0 }
-    ensures { result ≡ word_at_by f a.now n.0 place_word }
-{
-    word_of(f, a, n, PARENT_IDX)
-}
+    // The key of a pair.
+    pub fn key(&self, n: NodeNo, at: Place) -> u64
+        requires { (n.0 < self.now.count) × (at.0 < most) }
+        ensures { result ≡ word_at_by F.layout self.now.words.now n.0 (keys_word + at.0) }
+    {
+        self.word(n, KEYS + at.0)
+    }
 
-// The node that an edge leads to.
-pub fn edge_of(f: Layout, a: &[u64], n: NodeNo, at: Place) -> NodeNo
-    requires { WithinBy f a.now n.0 × (at.0 ≤ most) }
-    ensures { result.0 ≡ word_at_by f a.now n.0 (edges_word + at.0) }
-{
-    NodeNo(word_of(f, a, n, EDGES + at.0) as usize)
-}
-
-// The key of a pair.
-pub fn key_of(f: Layout, a: &[u64], n: NodeNo, at: Place) -> u64
-    requires { WithinBy f a.now n.0 × (at.0 < most) }
-    ensures { result ≡ word_at_by f a.now n.0 (keys_word + at.0) }
-{
-    word_of(f, a, n, KEYS + at.0)
+    // How many pairs a node and those below it hold, where the format says it.
+    pub fn total(&self, n: NodeNo) -> Option<u64>
+        requires { n.0 < self.now.count }
+        ensures { MatchOption result (Counts F.layout → ⊥) (λ t. Counts F.layout × (t ≡ word_at_by F.layout self.now.words.now n.0 total_word)) }
+    {
+        if F::WORDS > TOTAL {
+            Some(self.word(n, TOTAL))
+        } else {
+            None
+        }
+    }
 }

@@ -3,9 +3,10 @@
 
 ghost use Rattle.std.specs.Prelude.{◌≡◌, ◌+◌, ◌-◌, ◌<◌, ◌≤◌, length, set};
 ghost use Rattle.model.specs.Layout.{header_size, header, format_word, count_word, offset_word, root_word, height_word, pairs_word, first_free_word, free_word, seen_word, mark_word};
-ghost use Rattle.header.specs.Headers.{Counted, raised};
+ghost use Rattle.model.specs.Mark.{seen_of, mark_of, stored_mark};
+ghost use Rattle.header.specs.Headers.{Counted, marked, raised};
 
-use node::{HEADER, NodeNo, WORDS, larger};
+use node::{HEADER, NodeNo, WORDS};
 
 // The places of its words.
 pub const FORMAT: usize = 0;
@@ -33,21 +34,18 @@ pub const LARGEST: usize = 1_048_575;
 
 pub const HIGHEST: usize = 8;
 
-// How many nodes a slice of so many words is an arena of; 0 if of none.
-pub fn node_count(long: usize) -> usize
+// How many nodes a slice of so many words is an arena of; None if of none.
+pub fn node_count(long: usize) -> Option<usize>
     ensures { Counted long result }
 {
     if long < HEADER {
-        return 0;
+        return None;
     }
     let count = (long - HEADER) / WORDS;
-    if count > LARGEST {
-        return 0;
+    if count == 0 || count > LARGEST || HEADER + WORDS * count != long {
+        return None;
     }
-    if HEADER + WORDS * count != long {
-        return 0;
-    }
-    count
+    Some(count)
 }
 
 // The number of the format.
@@ -111,16 +109,14 @@ pub fn count_on(a: &mut [u64])
     requires { (header_size ≤ length a.old) × (header a.old pairs_word + 1 < 18446744073709551616) }
     ensures { a.new ≡ set a.old pairs_word (header a.old pairs_word + 1) }
 {
-    let more = a[PAIRS] + 1;
-    a[PAIRS] = more;
+    a[PAIRS] += 1;
 }
 
 pub fn count_off(a: &mut [u64])
     requires { (header_size ≤ length a.old) × (1 ≤ header a.old pairs_word) }
     ensures { a.new ≡ set a.old pairs_word (header a.old pairs_word - 1) }
 {
-    let left = a[PAIRS] - 1;
-    a[PAIRS] = left;
+    a[PAIRS] -= 1;
 }
 
 // The first free node, or NONE, and how many are free.
@@ -166,7 +162,25 @@ pub fn raise_mark(a: &mut [u64], key: u64)
     requires { header_size ≤ length a.old }
     ensures { a.new ≡ raised key a.old }
 {
-    let mark = larger(a[MARK], key);
-    a[MARK] = mark;
+    a[MARK] = a[MARK].max(key);
     a[SEEN] = 1;
+}
+
+// The mark as a value: None until one was seen. An Option's own order is that of marks.
+pub fn stored_mark(a: &[u64]) -> Option<u64>
+    requires { header_size ≤ length a.now }
+    ensures { marked result ≡ stored_mark a.now }
+{
+    if a[SEEN] == 0 {
+        return None;
+    }
+    Some(a[MARK])
+}
+
+pub fn set_mark(a: &mut [u64], mark: Option<u64>)
+    requires { header_size ≤ length a.old }
+    ensures { a.new ≡ set (set a.old seen_word (seen_of (marked mark))) mark_word (mark_of (marked mark)) }
+{
+    a[SEEN] = u64::from(mark.is_some());
+    a[MARK] = mark.unwrap_or(0);
 }

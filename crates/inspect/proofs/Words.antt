@@ -1,17 +1,15 @@
 -- Laws of the words that the tests read: zeros one more, the chain by its first node, leaf or internal.
 -- Assumes nothing.
 use Prim.Native.Nat.{ℕ, zero, suc, ◌+◌, ◌-◌, ◌≤◌, ◌<◌}
-use native.Mathlib.Nat.{eq-or-lt_of_le}
 use native.Mathlib.Numerals.{sub-one}
 use native.Mathlib.Omega.{arith}
 use mathlib.Core.Path.{◌≡◌, refl}
-use mathlib.Core.Logic.{⊎_elim}
-use mathlib.Core.List.{List}
+use mathlib.Core.List.{List, [], ◌∷◌}
+use Rattle.std.proofs.Common.{◌↔◌, fold, take, drop, length, length-take, get_or-take, get_or-drop, sym, ap, ◌∙◌}
 use lib.ListN.{get_or}
 use lib.Bits.{bit_or, or_add_and, and_le_l, and_le_r}
 use Rattle.model.specs.declared.Layout.{Layout}
-use Rattle.model.specs.Layout.{none, leaf, internal, most, base_by, word_at_by, parent_word, keys_word, values_word, edges_word, total_word}
-use Rattle.model.specs.Words.{kind}
+use Rattle.model.specs.Layout.{none, most, base_by, word_at_by, parent_word, keys_word, values_word, edges_word, total_word}
 use Rattle.model.specs.WellFormed.{Reached, ZerosBy, UnusedZeroBy, length_at_by, edges_used}
 use Rattle.model.specs.Shape.{OwnFreeBy, ChainBy}
 use Rattle.inspect.specs.Tests.{RestZeroBy}
@@ -25,32 +23,38 @@ or_right x y e = omega (arith, e, or_add_and x y, and_le_l x y)
 pub or_both : (x y : ℕ) → x ≡ 0 → y ≡ 0 → bit_or x y ≡ 0
 or_both x y e f = rw (e, f) refl
 
--- the words from b + f up to b + t are 0
-abbrev pub Clear : List ℕ → ℕ → ℕ → ℕ → Type 0
-Clear w b f t = (k : ℕ) → f ≤ k → k < t → get_or w (b + k) 0 ≡ 0
+-- all words ored: 0 exactly when each is 0
+fold_zero : (xs : List ℕ) (z : ℕ) → fold bit_or z xs ≡ 0 → (z ≡ 0) × ((k : ℕ) → get_or xs k 0 ≡ 0)
+fold_zero [] z e = (e, λ k. refl)
+fold_zero (x ∷ xs) z e =
+    let h = fold_zero xs (bit_or z x) e in (
+      or_left z x h.0,
+      elim [
+        | zero ↦ or_right z x h.0
+        | suc k ↦ h.1 k
+      ],
+    )
 
-pub clear_more : (w : List ℕ) (b f t : ℕ) → Clear w b f t → get_or w (b + t) 0 ≡ 0 → Clear w b f (t + 1)
-clear_more w b f t z e k l u = ⊎_elim (λ d. rw d e) (λ m. z k l m) (eq-or-lt_of_le (let q : k ≤ t = omega arith in q))
+zero_fold : (xs : List ℕ) (z : ℕ) → z ≡ 0 → ((k : ℕ) → k < length xs → get_or xs k 0 ≡ 0) → fold bit_or z xs ≡ 0
+zero_fold [] z e h = e
+zero_fold (x ∷ xs) z e h = zero_fold xs (bit_or z x) (or_both z x e (h 0 (omega arith))) (λ k l. h (suc k) (omega arith))
 
-pub zeros_clear : (fm : Layout) {b : ℕ} (w : List ℕ) (n f t : ℕ) → b ≡ base_by fm n → ZerosBy fm w n f t → Clear w b f t
-unfolding ZerosBy word_at_by
-zeros_clear fm w n f t e z = rw e z
+module _ (fm : Layout) {b r : ℕ} (w : List ℕ) (n f t : ℕ) (at : b ≡ base_by fm n) (all : r ≡ fold bit_or 0 (take (b + t - (b + f)) (drop (b + f) w))) where
+  word_is : (j : ℕ) → f + j < t → get_or (take (b + t - (b + f)) (drop (b + f) w)) j 0 ≡ word_at_by fm w n (f + j)
+  unfolding word_at_by
+  word_is j u =
+      let d : b + f + j ≡ base_by fm n + (f + j) = omega (arith, at) in
+      get_or-take (b + t - (b + f)) (drop (b + f) w) j 0 (omega arith) ∙ get_or-drop (b + f) w j 0 ∙ ap (λ (i : ℕ). get_or w i 0) d
 
-pub clear_zeros : (fm : Layout) {b : ℕ} (w : List ℕ) (n f t : ℕ) → b ≡ base_by fm n → Clear w b f t → ZerosBy fm w n f t
-unfolding ZerosBy word_at_by
-clear_zeros fm w n f t e z = rw e at z
+  pub ored_zeros : r ≡ 0 → ZerosBy fm w n f t
+  unfolding ZerosBy
+  ored_zeros e k l u = let d : f + (k - f) ≡ k = omega arith in rw d at (sym (word_is (k - f) (omega arith)) ∙ (fold_zero _ 0 (sym all ∙ e)).1 (k - f))
 
-pub kind_inner : (h : ℕ) → (h ≡ 0 → ⊥) → internal ≡ kind h
-kind_inner zero z = absurd (z refl)
-kind_inner (suc h) z = refl
-
-pub kind_leaf : (h : ℕ) → h ≡ 0 → kind h ≡ leaf
-kind_leaf zero z = refl
-kind_leaf (suc h) z = absurd (omega arith)
-
-pub used_inner : (h n : ℕ) → (h ≡ 0 → ⊥) → n + 1 ≡ edges_used h n
-used_inner zero n z = absurd (z refl)
-used_inner (suc h) n z = refl
+  pub zeros_ored : ZerosBy fm w n f t → r ≡ 0
+  unfolding ZerosBy
+  zeros_ored z =
+      let long = length-take (b + t - (b + f)) (drop (b + f) w) in
+      all ∙ zero_fold _ 0 refl (λ (j : ℕ) l. let m : f + j < t = omega (arith, l, long) in word_is j m ∙ z (f + j) (omega arith) m)
 
 module _ (fm : Layout) (w : List ℕ) (count : ℕ) where
   pub chain_out : (c x : ℕ) → 0 < c → ChainBy fm w count c x → OwnFreeBy fm w count x × ChainBy fm w count (c - 1) (word_at_by fm w x parent_word)
@@ -72,6 +76,12 @@ module _ (fm : Layout) (w : List ℕ) (count : ℕ) where
   unfolding ChainBy
   done_chain zero x z e = e
   done_chain (suc c) x z e = absurd (omega arith)
+
+  -- one node more
+  pub chain_next : (free k x y : ℕ) → k < free → y ≡ word_at_by fm w x parent_word → OwnFreeBy fm w count x → ChainBy fm w count (free - k) x ↔ ChainBy fm w count (free - (k + 1)) y
+  chain_next free k x y l e o =
+      let z : free - (k + 1) ≡ free - k - 1 = omega arith in
+      (λ h. rw (e, z) (chain_out (free - k) x (omega arith) h).1, λ h. chain_in (free - k) x (omega arith) o (rw (e, z) at h))
 
 pub used_most : (h n : ℕ) → edges_used h n ≤ n + 1
 used_most zero n = omega arith

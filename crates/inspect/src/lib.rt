@@ -1,16 +1,14 @@
 // The checker's tests of single parts: a node's own words, its children's links, the free chain, a key after another, the mark. They only read.
 #![tactic(auto)]
 
-ghost use Rattle.std.specs.Prelude.{◌≡◌, ℕ, ◌+◌, ◌≤◌, ◌<◌, length};
-ghost use Rattle.model.specs.Layout.{SizedBy, least, most, node_size_by};
+ghost use Rattle.std.specs.Prelude.{◌≡◌, ℕ, ◌+◌, ◌≤◌, ◌<◌, fold, bit_or};
+ghost use Rattle.model.specs.Layout.{least, most, node_size_by};
 ghost use Rattle.model.specs.Words.{kind};
 ghost use Rattle.model.specs.WellFormed.{UnusedZeroBy, FreeZeroBy, LinkedBy, ZerosBy, length_at_by, key_at_by, edges_used};
 ghost use Rattle.model.specs.Shape.{OwnBy, ChainBy};
-ghost use Rattle.formats.specs.Within.{WithinBy};
-ghost use Rattle.inspect.specs.Tests.{Decides, RestZeroBy, LeadsBy, Above, Marked, reached, rise, ups, steps};
+ghost use Rattle.inspect.specs.Tests.{Decides, HeadedBy, RestZeroBy, LeadsBy, Above, Marked, reached, rise, ups, steps};
 
-use formats::{base_of, edge_of, key_of, len_of, node_words, parent_idx_of, parent_of, state_of};
-use model::Layout;
+use formats::{Arena, Format};
 use node::{
     CAPACITY, EDGES, INTERNAL, KEYS, LEAF, MIN_LEN, NONE, NodeNo, PARENT, PARENT_IDX, Place, STATE,
     TOTAL, VALS,
@@ -29,26 +27,20 @@ pub struct Visit {
     pub place: Place,
 }
 
-// The key that was passed last.
-#[derive(Clone, Copy)]
-pub enum Last {
-    Start,
-    After(u64),
+// All words ored: no branch comes between them.
+fn ored(words: &[u64]) -> u64
+    ensures { result ≡ fold bit_or 0 words.now }
+{
+    words.iter().fold(0, |all, word| all | *word)
 }
 
 // Whether the words of a node from `from` up to `to` are 0.
-fn zeros(f: Layout, a: &[u64], n: NodeNo, from: usize, to: usize) -> bool
-    requires { WithinBy f a.now n.0 × (to ≤ node_size_by f) }
-    ensures { Decides result (ZerosBy f a.now n.0 from to) }
+fn zeros<F: Format>(arena: &Arena<F>, node: NodeNo, from: usize, to: usize) -> bool
+    requires { (node.0 < arena.now.count) × (from ≤ to) × (to ≤ node_size_by F.layout) }
+    ensures { Decides result (ZerosBy F.layout arena.now.words.now node.0 from to) }
 {
-    let b = base_of(f, n);
-    let mut all = 0;
-    let mut k = from;
-    while k < to {
-        all = all | a[b + k];
-        k += 1;
-    }
-    all == 0
+    let b = arena.base(node);
+    ored(&arena.words[b + from..b + to]) == 0
 }
 
 // A word where it is not in use, and 0 where it is.
@@ -58,17 +50,19 @@ fn kept(x: u64, k: usize, from: usize) -> u64
     if k < from { 0 } else { x }
 }
 
-// Whether the words for keys and values that a node of n pairs, 5 or more, does not use are 0. The turns are as many whatever n is.
-fn rest_zero(f: Layout, a: &[u64], node: NodeNo, n: usize) -> bool
-    requires { WithinBy f a.now node.0 × (least ≤ n) }
-    ensures { Decides result (RestZeroBy f a.now node.0 n) }
+// Whether the words for keys and values that a node of n pairs, 5 or more, does not use are 0: `zeros`, with as many turns whatever n is.
+fn rest_zero<F: Format>(arena: &Arena<F>, node: NodeNo, n: usize) -> bool
+    requires { (node.0 < arena.now.count) × (least ≤ n) }
+    ensures { Decides result (RestZeroBy F.layout arena.now.words.now node.0 n) }
 {
-    let b = base_of(f, node);
+    let b = arena.base(node);
     let mut all = 0;
-    let mut i = MIN_LEN;
-    while i < CAPACITY {
-        all = all | kept(a[b + (KEYS + i)] | a[b + (VALS + i)], i, n);
-        i += 1;
+    for i in MIN_LEN..CAPACITY {
+        all |= kept(
+            arena.words[b + (KEYS + i)] | arena.words[b + (VALS + i)],
+            i,
+            n,
+        );
     }
     all == 0
 }
@@ -89,154 +83,101 @@ fn edges_used(below: usize, n: usize) -> usize
 }
 
 // Whether the words that a node of n pairs does not use are 0.
-fn unused(f: Layout, a: &[u64], v: Visit, n: usize) -> bool
-    requires { WithinBy f a.now v.node.0 × (n ≡ length_at_by f a.now v.node.0) × (n ≤ most) }
-    ensures { Decides result (UnusedZeroBy f a.now (reached v)) }
+fn unused<F: Format>(arena: &Arena<F>, v: Visit, n: usize) -> bool
+    requires { (v.node.0 < arena.now.count) × (n ≡ length_at_by F.layout arena.now.words.now v.node.0) × (n ≤ most) }
+    ensures { Decides result (UnusedZeroBy F.layout arena.now.words.now (reached v)) }
 {
-    let node = v.node;
-    if !zeros(f, a, node, KEYS + n, VALS) {
-        return false;
-    }
-    if !zeros(f, a, node, VALS + n, EDGES) {
-        return false;
-    }
-    zeros(f, a, node, EDGES + edges_used(v.below, n), TOTAL)
+    zeros(arena, v.node, KEYS + n, VALS)
+        && zeros(arena, v.node, VALS + n, EDGES)
+        && zeros(arena, v.node, EDGES + edges_used(v.below, n), TOTAL)
 }
 
 // Whether parent and edge index agree with the edge that led here.
-fn linked(f: Layout, a: &[u64], v: Visit) -> bool
-    requires { WithinBy f a.now v.node.0 }
-    ensures { Decides result (LinkedBy f a.now (reached v)) }
+fn linked<F: Format>(arena: &Arena<F>, v: Visit) -> bool
+    requires { v.node.0 < arena.now.count }
+    ensures { Decides result (LinkedBy F.layout arena.now.words.now (reached v)) }
 {
-    let node = v.node;
-    let place = v.place;
-    if parent_of(f, a, node) != v.parent {
+    arena.parent(v.node) == v.parent && arena.parent_idx(v.node) == v.place.0 as u64
+}
+
+// Whether there is the node, and its state, length and link are right.
+fn headed<F: Format>(arena: &Arena<F>, v: Visit) -> bool
+    ensures { Decides result (HeadedBy F.layout arena.now.words.now arena.now.count (reached v)) }
+{
+    if v.node.0 >= arena.count || arena.state(v.node) != kind_of(v.below) {
         return false;
     }
-    if parent_idx_of(f, a, node) != place.0 as u64 {
-        return false;
-    }
-    true
+    let n = arena.len(v.node);
+    v.fewest <= n && n <= CAPACITY && linked(arena, v)
 }
 
 // Whether a node's own words are right.
-pub fn own(f: Layout, a: &[u64], count: usize, v: Visit) -> bool
-    requires { SizedBy f count (length a.now) }
-    ensures { Decides result (OwnBy f a.now count (reached v)) }
+pub fn own<F: Format>(arena: &Arena<F>, v: Visit) -> bool
+    ensures { Decides result (OwnBy F.layout arena.now.words.now arena.now.count (reached v)) }
 {
-    let node = v.node;
-    if node.0 >= count {
-        return false;
-    }
-    if state_of(f, a, node) != kind_of(v.below) {
-        return false;
-    }
-    let n = len_of(f, a, node);
-    if n < v.fewest {
-        return false;
-    }
-    if n > CAPACITY {
-        return false;
-    }
-    if !linked(f, a, v) {
-        return false;
-    }
-    unused(f, a, v, n)
+    headed(arena, v) && unused(arena, v, arena.len(v.node))
 }
 
-// The same of a leaf that is not the root.
-pub fn own_leaf(f: Layout, a: &[u64], count: usize, v: Visit) -> bool
-    requires { SizedBy f count (length a.now) × (v.below ≡ 0) × (v.fewest ≡ least) }
-    ensures { Decides result (OwnBy f a.now count (reached v)) }
+// The same of a leaf that is not the root, with no turns by its length: that is faster.
+pub fn own_leaf<F: Format>(arena: &Arena<F>, v: Visit) -> bool
+    requires { (v.below ≡ 0) × (v.fewest ≡ least) }
+    ensures { Decides result (OwnBy F.layout arena.now.words.now arena.now.count (reached v)) }
 {
-    let node = v.node;
-    if node.0 >= count {
-        return false;
-    }
-    if state_of(f, a, node) != LEAF {
-        return false;
-    }
-    let n = len_of(f, a, node);
-    if n < MIN_LEN {
-        return false;
-    }
-    if n > CAPACITY {
-        return false;
-    }
-    if !linked(f, a, v) {
-        return false;
-    }
-    if !zeros(f, a, node, EDGES, TOTAL) {
-        return false;
-    }
-    rest_zero(f, a, node, n)
+    headed(arena, v)
+        && zeros(arena, v.node, EDGES, TOTAL)
+        && rest_zero(arena, v.node, arena.len(v.node))
 }
 
 // Whether all edges of a node of n pairs lead to nodes whose parent it is. This is looked at before any of them is followed, so that the
 // reads of the children overlap.
-pub fn lead(f: Layout, a: &[u64], count: usize, node: NodeNo, n: usize) -> bool
-    requires { SizedBy f count (length a.now) × (node.0 < count) × (n ≤ most) }
-    ensures { Decides result ((i : ℕ) → i < n + 1 → LeadsBy f a.now count node.0 i) }
+pub fn lead<F: Format>(arena: &Arena<F>, node: NodeNo, n: usize) -> bool
+    requires { (node.0 < arena.now.count) × (n ≤ most) }
+    ensures { Decides result ((i : ℕ) → i < n + 1 → LeadsBy F.layout arena.now.words.now arena.now.count node.0 i) }
 {
-    let edges = n + 1;
-    let mut i = 0;
-    while i < edges {
-        let child = edge_of(f, a, node, Place(i));
-        if child.0 >= count {
+    for i in 0..n + 1 {
+        let child = arena.edge(node, Place(i));
+        if child.0 >= arena.count || arena.parent(child) != node.0 as u64 {
             return false;
         }
-        if parent_of(f, a, child) != node.0 as u64 {
-            return false;
-        }
-        i += 1;
     }
     true
 }
 
 // Whether a free node's words are right, all but the link.
-fn own_free(f: Layout, a: &[u64], n: NodeNo) -> bool
-    requires { WithinBy f a.now n.0 }
-    ensures { Decides result (FreeZeroBy f a.now n.0) }
+fn own_free<F: Format>(arena: &Arena<F>, node: NodeNo) -> bool
+    requires { node.0 < arena.now.count }
+    ensures { Decides result (FreeZeroBy F.layout arena.now.words.now node.0) }
 {
-    if !zeros(f, a, n, STATE, PARENT) {
-        return false;
-    }
-    zeros(f, a, n, PARENT_IDX, node_words(f))
+    zeros(arena, node, STATE, PARENT) && zeros(arena, node, PARENT_IDX, F::WORDS)
 }
 
 // Whether just `free` free nodes are chained from `first` on, in rising order.
-pub fn chain(f: Layout, a: &[u64], count: usize, first: u64, free: u64) -> bool
-    requires { SizedBy f count (length a.now) }
-    ensures { Decides result (ChainBy f a.now count free first) }
+pub fn chain<F: Format>(arena: &Arena<F>, first: u64, free: u64) -> bool
+    ensures { Decides result (ChainBy F.layout arena.now.words.now arena.now.count free first) }
 {
     let mut at = first;
-    let mut left = free;
-    while left > 0 {
-        if at >= count as u64 {
+    for _ in 0..free {
+        if at >= arena.count as u64 {
             return false;
         }
-        let n = NodeNo(at as usize);
-        if !own_free(f, a, n) {
+        let node = NodeNo(at as usize);
+        if !own_free(arena, node) {
             return false;
         }
-        let next = parent_of(f, a, n);
+        let next = arena.parent(node);
         if next <= at {
             return false;
         }
         at = next;
-        left -= 1;
     }
     at == NONE
 }
 
 // Whether a key may come next.
-pub fn above(last: Last, key: u64) -> bool
+pub fn above(last: Option<u64>, key: u64) -> bool
     ensures { Decides result (Above last key) }
 {
-    match last {
-        Last::Start => true,
-        Last::After(k) => k < key,
-    }
+    last.is_none_or(|k| k < key)
 }
 
 // 1 where the second is above the first.
@@ -247,41 +188,23 @@ fn up(x: u64, y: u64) -> usize
 }
 
 // How many of the words for keys, but the last, are below the next one.
-pub fn ascents(f: Layout, a: &[u64], n: NodeNo) -> usize
-    requires { WithinBy f a.now n.0 }
-    ensures { result ≡ ups (key_at_by f a.now n.0) steps }
+pub fn ascents<F: Format>(arena: &Arena<F>, node: NodeNo) -> usize
+    requires { node.0 < arena.now.count }
+    ensures { result ≡ ups (key_at_by F.layout arena.now.words.now node.0) steps }
 {
-    let mut low = key_of(f, a, n, Place(0));
     let mut m = 0;
-    let mut i = 0;
-    while i < STEPS {
-        let high = key_of(f, a, n, Place(i + 1));
-        m += up(low, high);
-        low = high;
-        i += 1;
+    for i in 0..STEPS {
+        m += up(arena.key(node, Place(i)), arena.key(node, Place(i + 1)));
     }
     m
 }
 
 // Whether mark seen and mark suit the last of all keys.
-pub fn marked(seen: u64, mark: u64, last: Last) -> bool
+pub fn marked(seen: u64, mark: u64, last: Option<u64>) -> bool
     ensures { Decides result (Marked seen mark last) }
 {
     match last {
-        Last::Start => {
-            if seen > 1 {
-                return false;
-            }
-            if seen == 1 {
-                return true;
-            }
-            mark == 0
-        }
-        Last::After(k) => {
-            if seen != 1 {
-                return false;
-            }
-            k <= mark
-        }
+        None => seen == 1 || (seen == 0 && mark == 0),
+        Some(k) => seen == 1 && k <= mark,
     }
 }

@@ -1,6 +1,6 @@
 -- A listing on its way: what it has written, and what is left.
 -- Assumes nothing.
-use Prim.Native.Nat.{ℕ, zero, suc, ◌+◌, ◌*◌, ◌/◌, ◌≤◌, ◌<◌}
+use Prim.Native.Nat.{ℕ, zero, suc, ◌+◌, ◌*◌, ◌≤◌, ◌<◌}
 use native.Mathlib.Nat.{div-add-mod'}
 use native.Mathlib.Omega.{arith}
 use mathlib.Core.Path.{◌≡◌, refl, sym, ap, ap₂, ◌∙◌, subst}
@@ -10,11 +10,13 @@ use lib.Dec.{ltb}
 use lib.Seq.{take_at}
 use lib.ListN.{length, take, drop, set, length-append}
 use borrow.Author.Tests.{lt-ltb, le-ltb}
-use Rattle.model.specs.declared.Answer.TheVariants.{Done}
 use Rattle.model.specs.declared.SearchBound.{SearchBound}
 use Rattle.model.specs.declared.Range.{Range}
+use Rattle.model.specs.declared.Answer.TheVariants.{Done}
 use Rattle.model.specs.declared.Listed.{Listed}
-use Rattle.model.specs.Tree.{Pair, Ctx, Whole, plug, after}
+use Rattle.model.specs.declared.Page.{Page}
+use Rattle.model.specs.Answer.{said_listed}
+use Rattle.model.specs.Tree.{Pair, Whole, plug, after}
 use Rattle.model.specs.Search.{Spot, at, gap}
 use Rattle.model.specs.Walk.{next_kv, next_edge}
 use Rattle.model.specs.Range.{to_end}
@@ -26,9 +28,14 @@ use Rattle.model.proofs.Walks.{Ahead, next_kv_lem, next_edge_lem, start_edge, st
 use Rattle.slices.proofs.Laws.{set_two}
 use Rattle.search.specs.declared.Handle.{Handle}
 use Rattle.search.specs.Results.{leaf_edge}
-use Rattle.std.proofs.Common.{Some, None}
+use Rattle.std.proofs.Common.{Ok, Some, None, is_some}
+use Rattle.std.specs.Bool.{then_some}
+use Rattle.std.specs.Option.{MatchOption}
 use Rattle.navigate.specs.Places.{EdgeAt, KvAt, stepped}
 use Rattle.navigate.proofs.Pairs.{Placed, InTree, step_placed}
+use Rattle.node.specs.declared.Kv.{Kv}
+use Rattle.node.specs.Reading.{pair_of}
+use Rattle.listing.specs.Heads.{Head, HeadOf, HeadUpTo}
 use Rattle.listing.specs.Written.{Lays}
 
 -- ---- pairs laid over words
@@ -51,9 +58,6 @@ laid_more ps p o n e l =
     ap (λ (j : ℕ). set (set (pair_words ps ++ drop (2 * j) o) (2 * n) p.key) (2 * n + 1) p.val) e
     ∙ (set_two (pair_words ps) p.key p.val o (2 * n) (words_length ps ∙ ap (λ (j : ℕ). 2 * j) e) l
     ∙ ap₂ (λ (a : List ℕ) (j : ℕ). a ++ drop j o) (sym (pairs_append ps (p ∷ []))) (let z : 2 * n + 2 ≡ 2 * length (ps ++ p ∷ []) = omega (arith, length-append ps (p ∷ [])) in z))
-
-pub room_two : (n long : ℕ) → n ≤ long / 2 → (n ≡ long / 2 → ⊥) → 2 * n + 2 ≤ long
-room_two n long l e = let z : n < long / 2 = omega arith in omega (arith, div-add-mod' long 2)
 
 take_whole : (l : List Pair) (k : ℕ) → length l ≤ k → take k l ≡ l
 take_whole [] zero u = refl
@@ -97,46 +101,57 @@ no_sight y q = go (next_kv y.way) (next_kv_lem y.way) q
     go (gap c) a e = a
     go (at c n l x z r) a e = let f : ◌≡◌ {A = ℕ} 0 1 = cc in absurd (omega arith)
 
+-- the pair in sight, with the edge after it
+pub peeked : {s : State} {e d : Handle} (y : EdgeAt s e) (v : Sight y d) (k x : ℕ) (f : Handle) → k ≡ v.kv.item.pair.key → x ≡ v.kv.item.pair.val → f ≡ leaf_edge (next_edge v.kv.ctx v.kv.no v.kv.left v.kv.hole v.kv.item v.kv.right)
+    → HeadOf s (after y.way) (Some (record { 0 = k; 1 = x }, f))
+peeked y v k x f ek ex ef =
+    let a = v.kv in
+    let next = next_edge a.ctx a.no a.left a.hole a.item a.right in
+    (record { way = next; whole = (next_edge_lem a.ctx a.no a.left a.hole a.item a.right).1 ∙ a.whole; is = ef }, v.ahead ∙ (λ i. record { key = sym ek i; val = sym ex i } ∷ after next))
+
+-- of a head that the end admits, and of one that it does not
+pub within : (end : SearchBound) {s : State} {ps : List Pair} (x : Kv × Handle) (b : Bool) → b ≡ to_end end x.0.0 → HeadOf s ps (Some x) → HeadUpTo end s ps (then_some b x)
+within end x true q h = (h.0, ap (up_to end) h.1 ∙ rw (sym q) refl)
+within end x false q h = ap (up_to end) h.1 ∙ rw (sym q) refl
+
+pub filtered : {F : Kv × Handle → Bool → Type 0} (end : SearchBound) (s : State) (ps : List Pair) (h r : Head) → HeadOf s ps h → ((x : Kv × Handle) (b : Bool) → F x b → b ≡ to_end end x.0.0)
+    → MatchOption h (r ≡ None) (λ x. (b : Bool) × F x b × (r ≡ then_some b x)) → HeadUpTo end s ps r
+filtered end s ps (Some x) r y f m = subst (HeadUpTo end s ps) (sym m.2) (within end x m.0 (f x m.0 m.1) y)
+filtered end s ps None r y f m = subst (HeadUpTo end s ps) (sym m) (ap (up_to end) y)
+
 module _ {s : State} {all : List Pair} {end : SearchBound} {o₀ o : List ℕ} {n : ℕ} {d : Handle} (y : Sofar s all end o₀ o n d) where
-  lays : (more : Bool) → take (room o₀) all ≡ y.done → more ≡ ltb (room o₀) (length all) → Lays all o₀ o (record { answer = Done; wrote = n; more = more })
-  lays more t m = record { written = y.words ∙ ap (λ (l : List Pair). laid l o₀) (sym t); said = ap₂ (λ (n : ℕ) (b : Bool). record { answer = Done; wrote = n; more = b }) (sym (ap length t ∙ y.count)) m }
+  lays : (more : Bool) → take (room o₀) all ≡ y.done → more ≡ ltb (room o₀) (length all) → Lays all o₀ o (record { wrote = n; more = more })
+  lays more t m = record { written = y.words ∙ ap (λ (l : List Pair). laid l o₀) (sym t); said = ap₂ (λ (n : ℕ) (b : Bool). record { wrote = n; more = b }) (sym (ap length t ∙ y.count)) m }
 
   -- no pair of the range is left
-  pub all_told : n ≤ room o₀ → up_to end (after y.edge.way) ≡ [] → Lays all o₀ o (record { answer = Done; wrote = n; more = false })
+  pub all_told : n ≤ room o₀ → up_to end (after y.edge.way) ≡ [] → Lays all o₀ o (record { wrote = n; more = false })
   all_told l q =
       let a : all ≡ y.done = y.split ∙ (ap (λ (m : List Pair). y.done ++ m) q ∙ append-nil y.done) in
       lays false (ap (take (room o₀)) a ∙ take_whole y.done (room o₀) (omega (arith, y.count))) (sym (le-ltb (room o₀) (length all) (omega (arith, ap length a, y.count))))
 
   -- one is left, and no room
-  room_told : n ≡ room o₀ → (p : Pair) (ps : List Pair) → up_to end (after y.edge.way) ≡ p ∷ ps → Lays all o₀ o (record { answer = Done; wrote = n; more = true })
+  room_told : n ≡ room o₀ → (p : Pair) (ps : List Pair) → up_to end (after y.edge.way) ≡ p ∷ ps → Lays all o₀ o (record { wrote = n; more = true })
   room_told l p ps q =
       let a : all ≡ y.done ++ p ∷ ps = y.split ∙ ap (λ (m : List Pair). y.done ++ m) q in
       lays true (ap (take (room o₀)) a ∙ take_at y.done (p ∷ ps) (room o₀) (y.count ∙ l)) (sym (lt-ltb (room o₀) (length all) (omega (arith, ap length a ∙ length-append y.done (p ∷ ps), y.count))))
 
-  module _ {k : Handle} (v : Sight y.edge k) where
-    abbrev next : Ctx zero
-    next = next_edge v.kv.ctx v.kv.no v.kv.left v.kv.hole v.kv.item v.kv.right
+  -- the room is full
+  in_room : n ≡ room o₀ → (h : Head) → HeadUpTo end s (after y.edge.way) h → Lays all o₀ o (record { wrote = n; more = is_some h })
+  in_room l (Some x) u = room_told l (pair_of x.0) (up_to end (after u.0.way)) u.1
+  in_room l None u = all_told (omega arith) u
 
-    -- the pair in sight is past the end
-    pub end_told : n ≤ room o₀ → to_end end v.kv.item.pair.key ≡ false → Lays all o₀ o (record { answer = Done; wrote = n; more = false })
-    end_told l q = all_told l (ap (up_to end) v.ahead ∙ rw q)
+  pub full : n ≡ room o₀ → (h : Head) (more : Bool) → HeadUpTo end s (after y.edge.way) h → more ≡ is_some h → Lays all o₀ o (record { wrote = room o₀; more = more })
+  full l h more u q = subst (Lays all o₀ o) (ap₂ (λ (n : ℕ) (b : Bool). record { wrote = n; more = b }) l (sym q)) (in_room l h u)
 
-    in_end : to_end end v.kv.item.pair.key ≡ true → up_to end (after y.edge.way) ≡ v.kv.item.pair ∷ up_to end (after next)
-    in_end q = ap (up_to end) v.ahead ∙ rw q
-
-    pub more_told : n ≡ room o₀ → to_end end v.kv.item.pair.key ≡ true → Lays all o₀ o (record { answer = Done; wrote = n; more = true })
-    more_told l q = room_told l v.kv.item.pair (up_to end (after next)) (in_end q)
-
-    -- the pair is written
-    pub one_more : to_end end v.kv.item.pair.key ≡ true → 2 * n + 2 ≤ length o₀ → (key val : ℕ) → key ≡ v.kv.item.pair.key → val ≡ v.kv.item.pair.val → (d' : Handle) → d' ≡ leaf_edge next
-        → Sofar s all end o₀ (set (set o (2 * n) key) (2 * n + 1) val) (n + 1) d'
-    one_more q l key val ek ev d' ed = record {
-      edge = record { way = next; whole = (next_edge_lem v.kv.ctx v.kv.no v.kv.left v.kv.hole v.kv.item v.kv.right).1 ∙ v.kv.whole; is = ed };
-      done = y.done ++ v.kv.item.pair ∷ [];
-      split = y.split ∙ (ap (λ (m : List Pair). y.done ++ m) (in_end q) ∙ simp append_assoc);
-      count = length-append y.done (v.kv.item.pair ∷ []) ∙ omega (arith, y.count);
-      words = rw (y.words, ek, ev) (laid_more y.done v.kv.item.pair o₀ n y.count l);
-    }
+  -- the pair in sight is written
+  pub one_more : (x : Kv × Handle) → HeadUpTo end s (after y.edge.way) (Some x) → n < room o₀ → Sofar s all end o₀ (set (set o (2 * n) x.0.0) (2 * n + 1) x.0.1) (n + 1) x.1
+  one_more x u l = record {
+    edge = u.0;
+    done = y.done ++ pair_of x.0 ∷ [];
+    split = y.split ∙ (ap (λ (m : List Pair). y.done ++ m) u.1 ∙ simp append_assoc);
+    count = length-append y.done (pair_of x.0 ∷ []) ∙ omega (arith, y.count);
+    words = rw y.words (laid_more y.done (pair_of x.0) o₀ n y.count (omega (arith, l, div-add-mod' (length o₀) 2)));
+  }
 
 -- ---- where it begins: at the edge of the start
 
@@ -145,12 +160,8 @@ module _ (q : Range) {s : State} (o : Sound s) where
   start_at d e = record { way = start_edge q s.whole; whole = (start_parts q s.whole o.rising).whole; is = e }
 
   -- what lies after it, up to the end, is the range
-  pub listed : (o₀ o₁ : List ℕ) (r : Listed) → Lays (up_to q.end (after (start_edge q s.whole))) o₀ o₁ r
-      → (o₁ ≡ laid (listing q (room o₀) s) o₀) × (r ≡ record { answer = Done; wrote = length (listing q (room o₀) s); more = more_remain q (room o₀) s })
+  pub listed : (o₀ o₁ : List ℕ) (r : Page) → Lays (up_to q.end (after (start_edge q s.whole))) o₀ o₁ r
+      → (o₁ ≡ laid (listing q (room o₀) s) o₀) × (said_listed (Ok r) ≡ record { answer = Done; wrote = length (listing q (room o₀) s); more = more_remain q (room o₀) s })
   listed o₀ o₁ r l =
       let e = sym (range_is q s.whole o.rising) in
-      (l.written ∙ ap (λ (ps : List Pair). laid (take (room o₀) ps) o₀) e, l.said ∙ ap (λ (ps : List Pair). record { answer = Done; wrote = length (take (room o₀) ps); more = ltb (room o₀) (length ps) }) e)
-
--- a range that is right is not a bad one
-pub not_bad : {b : Bool} → b ≡ false → b ≡ true → ⊥
-not_bad p q = let z : ◌≡◌ {A = ℕ} 0 1 = cc in absurd (omega arith)
+      (l.written ∙ ap (λ (ps : List Pair). laid (take (room o₀) ps) o₀) e, ap (λ (p : Page). said_listed (Ok p)) l.said ∙ ap {B = Listed} (λ (ps : List Pair). record { answer = Done; wrote = length (take (room o₀) ps); more = ltb (room o₀) (length ps) }) e)

@@ -1,1 +1,4 @@
+-- The files of this crate's definitions.
+-- Assumes nothing.
+pub mod Heads
 pub mod Written

@@ -14,7 +14,6 @@ use Rattle.model.specs.Layout.{largest_count, most, header, pairs_word}
 use Rattle.model.specs.Tree.{Pair, top, flat_of, before, after}
 use Rattle.model.specs.Search.{sink}
 use Rattle.model.specs.Range.{from_start, starts}
-use Rattle.model.specs.Walk.{next_edge}
 use Rattle.model.specs.State.{State, list}
 use Rattle.model.specs.Sound.{Sound}
 use Rattle.model.specs.WellFormed.{WellFormed}
@@ -22,20 +21,20 @@ use Rattle.model.specs.Promise.{Holds, laid}
 use Rattle.model.specs.Merge.{merge}
 use Rattle.model.specs.Join.{joined_run}
 use Rattle.model.proofs.Plug.{flat_plug}
-use Rattle.model.proofs.Walks.{next_edge_lem, start_edge, start_parts}
+use Rattle.model.proofs.Walks.{start_edge, start_parts}
 use Rattle.model.proofs.Bounds.{few}
 use Rattle.model.proofs.Header.{header_is}
 use Rattle.model.proofs.Ends.{both_ways}
 use Rattle.loading.proofs.Merging.{against_first, against_both, against_second, length_merge}
+use Rattle.std.proofs.Common.{Some}
 use Rattle.node.specs.declared.Kv.{Kv}
 use Rattle.node.specs.Reading.{pair_of}
 use Rattle.search.specs.declared.Handle.{Handle}
 use Rattle.search.specs.Results.{leaf_edge}
 use Rattle.navigate.specs.Places.{In, EdgeAt}
-use Rattle.listing.proofs.Sofar.{laid_more, Sight}
-use Rattle.merging.specs.declared.Head.{Head}
-use Rattle.merging.specs.declared.Head.TheVariants as head
-use Rattle.merging.specs.Heads.{HeadOf, HeadIn, Stepped}
+use Rattle.listing.specs.Heads.{Head, HeadOf}
+use Rattle.listing.proofs.Sofar.{laid_more}
+use Rattle.merging.specs.Heads.{HeadIn, Stepped}
 
 -- ---- one walk
 
@@ -55,14 +54,6 @@ start_after {s} o d e =
     let p = start_parts all s.whole o.rising in
     let c = start_edge all s.whole in
     sym (ap flat_of (sym p.whole) ∙ (flat_plug c tt ∙ ap (λ (l : List Pair). l ++ after c) (none_before (before c) p.leaves)))
-
--- the pair in sight, with the edge after it
-pub peeked : {s : State} {e d : Handle} (y : EdgeAt s e) (v : Sight y d) (k x : ℕ) (f : Handle) → k ≡ v.kv.item.pair.key → x ≡ v.kv.item.pair.val → f ≡ leaf_edge (next_edge v.kv.ctx v.kv.no v.kv.left v.kv.hole v.kv.item v.kv.right)
-    → HeadOf s (after y.way) (head.Pair (record { 0 = k; 1 = x }) f)
-peeked y v k x f ek ex ef =
-    let a = v.kv in
-    let next = next_edge a.ctx a.no a.left a.hole a.item a.right in
-    (record { way = next; whole = (next_edge_lem a.ctx a.no a.left a.hole a.item a.right).1 ∙ a.whole; is = ef }, v.ahead ∙ (λ i. record { key = sym ek i; val = sym ex i } ∷ after next))
 
 -- ---- a step of both
 
@@ -84,8 +75,8 @@ module _ {s t : State} {ps qs : List Pair} where
     second_less l x h = record { first = ps; second = b; first_is = x; second_is = h; split = rw (e, f) (against_second (pair_of p) (merge a) (pair_of q) b l) }
 
 -- the edge that a head has after it
-pub edge_of : {w : List ℕ} {h : Head} {kv : Kv} {d : Handle} → h ≡ head.Pair kv d → In w (λ s. HeadIn s h) → In w (λ s. EdgeAt s d)
-edge_of e y = record { state = y.state; holds = y.holds; there = (subst (HeadOf y.state y.there.0) e y.there.1).0 }
+pub edge_of : {w : List ℕ} {h : Head} (x : Kv × Handle) → h ≡ Some x → In w (λ s. HeadIn s h) → In w (λ s. EdgeAt s x.1)
+edge_of x e y = record { state = y.state; holds = y.holds; there = (subst (HeadOf y.state y.there.0) e y.there.1).0 }
 
 -- ---- the whole walk
 
@@ -116,9 +107,21 @@ run_few {s = s} {t} g h = omega (arith, length_merge (list s) (list t), header_i
 pub pairs_few : {a : List ℕ} → WellFormed a → header a pairs_word ≤ most * largest_count
 pairs_few f = omega (arith, few f, f.sized.few)
 
+none_left : (l : List Pair) → length l ≤ 0 → l ≡ []
+none_left [] u = refl
+none_left (p ∷ l) u = absurd (omega arith)
+
 module _ {s t : State} {done : List Pair} {n : ℕ} {x y : Head} (g : Going s t done n x y) where
   pub all_told : merge g.first g.second ≡ [] → joined_run s t ≡ done
   all_told e = g.split ∙ (ap (λ (l : List Pair). done ++ l) e ∙ append-nil done)
+
+  -- what is before both walks
+  pub in_both : {a b : List ℕ} → Holds a s → Holds b t → In a (λ s. HeadIn s x) × In b (λ t. HeadIn t y)
+  in_both o u = (record { state = s; holds = o; there = (g.first, g.first_is) }, record { state = t; holds = u; there = (g.second, g.second_is) })
+
+  -- as many are told as both headers count: that is all
+  pub counted_all : {a b : List ℕ} → Holds a s → Holds b t → header a pairs_word + header b pairs_word ≤ n → joined_run s t ≡ done
+  counted_all o u l = all_told (none_left (merge g.first g.second) (omega (arith, ap length g.split, length-append done (merge g.first g.second), g.count, run_few o u, l)))
 
   module _ {kv : Kv} {f h : Head} (z : Stepped s t (merge g.first g.second) kv f h) where
     pub one_more : Going s t (done ++ pair_of kv ∷ []) (n + 1) f h
@@ -130,10 +133,6 @@ module _ {s t : State} {done : List Pair} {n : ℕ} {x y : Head} (g : Going s t 
       split = g.split ∙ (ap (λ (l : List Pair). done ++ l) z.split ∙ simp append_assoc);
       count = length-append done (pair_of kv ∷ []) ∙ omega (arith, g.count);
     }
-
-    -- one more is there
-    pub not_all : n < length (joined_run s t)
-    not_all = omega (arith, ap length (g.split ∙ ap (λ (l : List Pair). done ++ l) z.split), length-append done (pair_of kv ∷ merge z.first z.second), g.count)
 
     pub written : (o₀ o : List ℕ) → o ≡ laid done o₀ → 2 * n + 2 ≤ length o₀ → set (set o (2 * n) kv.0) (2 * n + 1) kv.1 ≡ laid (done ++ pair_of kv ∷ []) o₀
     written o₀ o e l = ap (λ (o : List ℕ). set (set o (2 * n) kv.0) (2 * n + 1) kv.1) e ∙ laid_more done (pair_of kv) o₀ n g.count l

@@ -30,7 +30,7 @@ ascent_of p i =
       | false ↦ Some (record { 0 = p }, record { 0 = i })
     ]
 
-abbrev pub side_of : Side → ℕ → LeftOrRight
+abbrev pub side_of : Side → ℕ → LeftOrRight Place
 side_of left i = Left (record { 0 = i })
 side_of right i = Right (record { 0 = i })
 

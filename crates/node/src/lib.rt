@@ -170,18 +170,18 @@ pub fn edge(a: &[u64], n: NodeNo, at: Place) -> NodeNo
     NodeNo(word(a, n, EDGES + at.0) as usize)
 }
 
-// A place in the left half or in the right one.
+// One of two sides, with what it is there.
 #[derive(Clone, Copy)]
-pub enum LeftOrRight {
-    Left(Place),
-    Right(Place),
+pub enum LeftOrRight<T> {
+    Left(T),
+    Right(T),
 }
 
 // Which pair rises, and where the new one goes.
 #[derive(Clone, Copy)]
 pub struct Rising {
     pub middle: Place,
-    pub insertion: LeftOrRight,
+    pub insertion: LeftOrRight<Place>,
 }
 
 // Where a full node is split for an insertion at an edge.

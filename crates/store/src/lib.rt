@@ -102,11 +102,9 @@ pub fn correct_childrens_parent_links(a: &mut [u64], n: NodeNo, from: usize, end
     requires { (from ≤ end) × Has a.old (λ h ns. LinkReady ns n.0 end) }
     ensures { (h : List ℕ) (ns : List NodeVal) → LinkReady ns n.0 end → Arena a.old h ns → Arena a.new h (relink_from ns n.0 from) }
 {
-    let mut i = from;
-    while i < end {
+    for i in from..end {
         let child = edge(a, n, Place(i));
         set_parent_link(a, child, n, Place(i));
-        i += 1;
     }
 }
 

@@ -3,84 +3,58 @@
 use native.Mathlib.Omega.{arith}
 use mathlib.Core.Path.{sym, ◌∙◌}
 use Rattle.model.specs.WellFormed.{key_at_by}
-use Rattle.model.specs.Shape.{OwnBy}
 use Rattle.inspect.specs.Tests.{reached, steps}
 use Rattle.inspect.proofs.Decisions.{decided, refuted}
 use Rattle.inspect.proofs.Ups.{ups_few}
 use Rattle.checker.specs.Walks.{Passes, node_task}
 use Rattle.checker.proofs.Nodes.{some_nodes, shape_own}
 use Rattle.checker.proofs.Leaves.{Passed, leaf_passed, leaf_good}
-use Rattle.formats.proofs.Bases.{sized_within}
-use borrow.Author.Rules.{rules}
 use Rattle.checker.proofs.check_leaf.Goals as goal
-use Rattle.checker.proofs.check_leaf.Goals.{Else-not-own_leaf, Start}
+use Rattle.checker.proofs.check_leaf.Goals.{Start, then-before-eq0-via-then-before-eq0, then-before-eq0-via-else-before-eq0+then-not-own_leaf, then-before-n-via-then-before-n, then-before-n-via-else-before-n+then-not-above, then-before-n-via-else-before-n+else-not-above+then-ascents-n, then-before-n-via-else-before-n+else-not-above+else-ascents-n+then-not-counted}
 
 -- what a leaf that is passed has beside its own words
-told : (s : Start) → let x = s.args in Passes (node_task x.f x.a.now x.count (reached x.v)) x.before → Passed x.f x.a.now x.v.node.0 x.before
-told s q =
-    let x = s.args in
+told : (g : _) (c : Start g) → let x = c.args in
+    Passes (node_task g.F.Format.layout x.arena.now.words.now x.arena.now.count (reached x.v)) x.before → Passed g.F.Format.layout x.arena.now.words.now x.v.node.0 x.before
+told g c p =
+    let x = c.args in
     let r = reached x.v in
-    leaf_passed x.f x.a.now x.count r.fewest r.node r.parent r.place x.before (omega (arith, s.requires.2)) r.below s.requires.1 q
-
--- its own words are right
-owned : (c : Else-not-own_leaf) → let x = c.args in OwnBy x.f x.a.now x.count (reached x.v)
-owned c = decided c.own_leaf.result c.own_leaf.ensures c.if-not-own_leaf.false
+    leaf_passed g.F.Format.layout x.arena.now.words.now x.arena.now.count r.fewest r.node r.parent r.place x.before (omega (arith, c.requires.1)) r.below c.requires.0 p
 
 pub returns-then-before-eq0 : goal.returns-then-before-eq0
-returns-then-before-eq0 c = λ p. let x = c.args in omega (arith, p.nodes, some_nodes x.f x.a.now x.count (reached x.v), c.if-before-eq0.true)
-
-pub own_leaf-requires : goal.own_leaf-requires
-own_leaf-requires c = search (rules, sized_within)
-
-pub returns-then-not-own_leaf : goal.returns-then-not-own_leaf
-returns-then-not-own_leaf c =
+returns-then-before-eq0 g c =
     λ p.
     let x = c.args in
     let r = reached x.v in
-    refuted c.own_leaf.result c.own_leaf.ensures c.if-not-own_leaf.true (shape_own x.f x.a.now x.count r.below r.fewest r.node r.parent r.place p.holds)
-
-pub len_of-n-requires : goal.len_of-n-requires
-len_of-n-requires c = let o = owned (goal.at.len_of-n-requires c).Else-not-own_leaf in search (rules, sized_within)
-
-pub returns-then-before-n : goal.returns-then-before-n
-returns-then-before-n c = λ p. omega (arith, (told (goal.at.returns-then-before-n c).Start p).pairs, c.if-before-n.true, c.len_of-n.ensures)
-
-pub key_of-requires : goal.key_of-requires
-key_of-requires c = let o = owned (goal.at.key_of-requires c).Else-not-own_leaf in search (rules, sized_within)
-
-pub returns-then-not-above : goal.returns-then-not-above
-returns-then-not-above c = λ p. refuted c.above.result c.above.ensures c.if-not-above.true (rw c.key_of.ensures (told (goal.at.returns-then-not-above c).Start p).above)
-
-pub ascents-requires : goal.ascents-requires
-ascents-requires c = let o = owned (goal.at.ascents-requires c).Else-not-own_leaf in search (rules, sized_within)
+    elim c.then-before-eq0.branch [
+      | then-before-eq0-via-then-before-eq0 w ↦ omega (arith, p.nodes, some_nodes g.F.Format.layout x.arena.now.words.now x.arena.now.count r, w.if-before-eq0.true)
+      | then-before-eq0-via-else-before-eq0+then-not-own_leaf w ↦
+          refuted w.own_leaf.result w.own_leaf.ensures w.if-not-own_leaf.true (shape_own g.F.Format.layout x.arena.now.words.now x.arena.now.count r.below r.fewest r.node r.parent r.place p.holds)
+    ]
 
 pub overflow_add-ascents : goal.overflow_add-ascents
-overflow_add-ascents c = let x = c.args in omega (arith, c.ascents.ensures, ups_few (key_at_by x.f x.a.now x.v.node.0) steps)
+overflow_add-ascents g c = omega (arith, c.ascents.ensures, ups_few (key_at_by g.F.Format.layout c.args.arena.now.words.now c.args.v.node.0) steps)
 
-pub returns-then-ascents-n : goal.returns-then-ascents-n
-returns-then-ascents-n c = λ p. omega (arith, (told (goal.at.returns-then-ascents-n c).Start p).ascents, c.ascents.ensures, c.len_of-n.ensures, c.if-ascents-n.true)
-
-pub counted-requires : goal.counted-requires
-counted-requires c = let o = owned (goal.at.counted-requires c).Else-not-own_leaf in search (rules, sized_within)
-
-pub returns-then-not-counted : goal.returns-then-not-counted
-returns-then-not-counted c = λ p. refuted c.counted.result c.counted.ensures c.if-not-counted.true (λ t. (told (goal.at.returns-then-not-counted c).Start p).told t ∙ sym c.len_of-n.ensures)
-
-pub key_of-requires-2 : goal.key_of-requires-2
-key_of-requires-2 c = let o = owned (goal.at.key_of-requires-2 c).Else-not-own_leaf in search (rules, sized_within)
+pub returns-then-before-n : goal.returns-then-before-n
+returns-then-before-n g c =
+    λ p.
+    let t = told g (goal.at.returns-then-before-n g c).Start p in
+    elim c.then-before-n.branch [
+      | then-before-n-via-then-before-n w ↦ omega (arith, t.pairs, w.if-before-n.true, c.len-n.ensures)
+      | then-before-n-via-else-before-n+then-not-above w ↦ refuted w.above.result w.above.ensures w.if-not-above.true (rw w.key.ensures t.above)
+      | then-before-n-via-else-before-n+else-not-above+then-ascents-n w ↦ omega (arith, t.ascents, w.ascents.ensures, c.len-n.ensures, w.if-ascents-n.true)
+      | then-before-n-via-else-before-n+else-not-above+else-ascents-n+then-not-counted w ↦ refuted w.counted.result w.counted.ensures w.if-not-counted.true (λ k. t.told k ∙ sym c.len-n.ensures)
+    ]
 
 pub returns : goal.returns
-returns c =
-    let s = c in
-    let x = s.args in
+returns g c =
+    let x = c.args in
     let r = reached x.v in
-    let n = c.len_of-n in
-    let v = c.above in
-    let o = owned (goal.at.returns c).Else-not-own_leaf in
-    leaf_good x.f x.a.now x.count r.fewest r.node r.parent r.place x.before (omega (arith, s.requires.2)) r.below n.result c.key_of-2.result s.requires.1 n.ensures c.key_of-2.ensures (omega (arith, c.if-before-eq0.false)) o
+    let n = c.len-n in
+    leaf_good g.F.Format.layout x.arena.now.words.now x.arena.now.count r.fewest r.node r.parent r.place x.before (omega (arith, c.requires.1)) r.below n.result c.key-2.result c.requires.0 n.ensures c.key-2.ensures (omega (arith, c.if-before-eq0.false))
+    (decided c.own_leaf.result c.own_leaf.ensures c.if-not-own_leaf.false)
     (record {
       pairs = omega (arith, n.ensures, c.if-before-n.false);
-      above = rw c.key_of.ensures at (decided v.result v.ensures c.if-not-above.false);
+      above = rw c.key.ensures at (decided c.above.result c.above.ensures c.if-not-above.false);
       ascents = omega (arith, n.ensures, c.ascents.ensures, c.if-ascents-n.false);
       told = λ t. decided c.counted.result c.counted.ensures c.if-not-counted.false t ∙ n.ensures;
     })

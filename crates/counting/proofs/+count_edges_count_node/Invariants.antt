@@ -1,8 +1,6 @@
 -- Assumes nothing.
-use Prim.Native.Nat.{ℕ, suc, ◌+◌, ◌-◌, ◌≤◌}
-use mathlib.Core.Path.{◌≡◌}
+use Prim.Native.Nat.{ℕ, suc, ◌+◌}
 use mathlib.Core.List.{List}
-use lib.ListN.{length}
 use Rattle.model.specs.Layout.{NodeVal, Arena}
 use Rattle.counting.specs.Counting.{TreeIn, Upto}
 use Rattle.counting.proofs.+count_edges_count_node.Given as goal
@@ -14,7 +12,4 @@ abbrev pub decreases-count_node : goal.decreases-count_node
 decreases-count_node l = l.below + l.below
 
 abbrev pub invariant-count_edges-loop-i : goal.invariant-count_edges-loop-i
-invariant-count_edges-loop-i l = (l.i ≤ l.initial.m + 1) × (length l.a ≡ length l.initial.a) × ((hd : List ℕ) (ns : List NodeVal) (K : TreeIn ns l.initial.n.0 (suc l.initial.below)) → Arena l.initial.a hd ns → Upto l.a hd ns l.initial.below K.tree l.i)
-
-abbrev pub decreases-count_edges-loop-i : goal.decreases-count_edges-loop-i
-decreases-count_edges-loop-i l = l.initial.m + 1 - l.i
+invariant-count_edges-loop-i l = (hd : List ℕ) (ns : List NodeVal) (K : TreeIn ns l.n.0 (suc l.below)) → Arena l.initial.a hd ns → Upto l.a hd ns l.below K.tree l.i

@@ -25,4 +25,4 @@ arrive-requires c =
     record { state = _; holds = o; there = record { spot = back_kv y.way; inside = back_in y; is = c.next_back_kv-to.ensures _ o y } }
 
 pub returns : goal.returns
-returns c = λ s o. let y = from (goal.at.returns c).After-lower_leaf_edge-edge o in c.arrive.ensures s o (back_kv y.way) (back_in y) (c.next_back_kv-to.ensures s o y) ∙ sym (last_arrives o c.args.changes)
+returns c = λ s o n. let y = from (goal.at.returns c).After-lower_leaf_edge-edge o in c.arrive.ensures s o (back_kv y.way) (back_in y) (c.next_back_kv-to.ensures s o y) n ∙ sym (last_arrives o n)

@@ -25,4 +25,4 @@ arrive-requires c =
     record { state = _; holds = o; there = record { spot = next_kv y.way; inside = next_in y; is = c.next_kv-to.ensures _ o y } }
 
 pub returns : goal.returns
-returns c = λ s o. let y = from (goal.at.returns c).After-lower_leaf_edge-edge o in c.arrive.ensures s o (next_kv y.way) (next_in y) (c.next_kv-to.ensures s o y) ∙ sym (seek_arrives o c.args.changes c.args.start)
+returns c = λ s o n. let y = from (goal.at.returns c).After-lower_leaf_edge-edge o in c.arrive.ensures s o (next_kv y.way) (next_in y) (c.next_kv-to.ensures s o y) n ∙ sym (seek_arrives o n c.args.start)

@@ -1,20 +1,8 @@
 -- `cursor::last` meets its contract.
 -- Assumes nothing.
-use Rattle.model.specs.WellFormed.{WellFormed}
-use Rattle.inspect.proofs.Decisions.{decided, refuted}
-use Rattle.cursor.proofs.Moves.{walk_bad, walk_done}
+use Rattle.model.specs.Cursor as on
+use Rattle.cursor.proofs.Moves.{walk_done}
 use Rattle.cursor.proofs.last.Goals as goal
-use Rattle.cursor.proofs.last.Goals.{Else-not-well_formed}
-
--- behind the check the arena is well-formed
-formed : (c : Else-not-well_formed) → WellFormed c.args.a.now
-formed c = decided c.well_formed-2.result c.well_formed-2.ensures c.if-not-well_formed.false
-
-pub returns-then-not-well_formed : goal.returns-then-not-well_formed
-returns-then-not-well_formed c = walk_bad _ _ _ (refuted c.well_formed-2.result c.well_formed-2.ensures c.if-not-well_formed.true) c.refused.ensures
-
-pub from_end-requires : goal.from_end-requires
-from_end-requires c = formed c
 
 pub returns : goal.returns
-returns c = walk_done _ _ c.from_end.result (formed (goal.at.returns c).Else-not-well_formed) (λ s o. c.from_end.ensures s o)
+returns c = walk_done (on.last c.args.changes) _ c.args.changes c.from_end-stand.result c.in_default.ensures.ok (λ s o. c.from_end-stand.ensures s o c.args.changes)

@@ -37,4 +37,4 @@ arrive-requires c =
     record { state = _; holds = o; there = record { spot = next_kv y.way; inside = next_in y; is = c.next_kv-to.ensures _ o y } }
 
 pub returns : goal.returns
-returns c = λ s o. let y = from (goal.at.returns c).After-next_leaf_edge-edge o in c.arrive.ensures s o (next_kv y.way) (next_in y) (c.next_kv-to.ensures s o y) ∙ on_told (here (goal.at.returns c).After-height_of-height o) o c.args.changes
+returns c = λ s o n. let y = from (goal.at.returns c).After-next_leaf_edge-edge o in c.arrive.ensures s o (next_kv y.way) (next_in y) (c.next_kv-to.ensures s o y) n ∙ on_told (here (goal.at.returns c).After-height_of-height o) o n

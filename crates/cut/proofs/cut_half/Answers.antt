@@ -1,6 +1,7 @@
 -- `cut::cut_half` meets its contract.
 -- Assumes nothing.
-use mathlib.Core.Path.{◌∙◌}
+use Rattle.std.proofs.Common.{ap, ◌∙◌}
+use Rattle.model.specs.Layout.{word_at, total_word}
 use lib.ListN.{length-set}
 use Rattle.model.proofs.Forward.{forward}
 use Rattle.cutting.proofs.Through.{along_ready, sweep_ready, root_ready, cut_through}
@@ -25,7 +26,7 @@ total-requires c =
     let x = c in
     let o = forward x.args.a.now x.requires in
     let d = c.lower_leaf_edge-edge in
-    root_ready x.args.key o d.result (d.ensures _ o) _ c.cut_along.ensures _ c.sweep.ensures
+    rw c.root.ensures (root_ready x.args.key o d.result (d.ensures _ o) _ c.cut_along.ensures _ c.sweep.ensures)
 
 pub shape_of-a : goal.shape_of-a
 shape_of-a c = simp length-set (c.sweep.auto.a ∙ c.cut_along.auto.a)
@@ -35,4 +36,4 @@ returns c =
     λ s o.
     let x = c in
     let d = c.lower_leaf_edge-edge in
-    cut_through x.args.key o d.result (d.ensures s o) _ c.cut_along.ensures _ c.sweep.ensures c.total.result c.total.ensures
+    cut_through x.args.key o d.result (d.ensures s o) _ c.cut_along.ensures _ c.sweep.ensures c.total.result (c.total.ensures ∙ ap (λ r. word_at c.sweep.new.a r total_word) c.root.ensures)

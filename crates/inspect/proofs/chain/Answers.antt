@@ -1,62 +1,42 @@
 -- `inspect::chain` meets its contract: the whole is a chain exactly where what is left of it is.
 -- Assumes nothing.
 use native.Mathlib.Omega.{arith}
-use mathlib.Core.Path.{◌≡◌}
+use Rattle.std.proofs.Common.{◌≡◌, ◌-◌}
 use lib.Dec.{eqb}
 use Rattle.model.specs.Layout.{none}
+use Rattle.model.specs.Shape.{OwnFreeBy, ChainBy}
 use Rattle.inspect.proofs.Decisions.{decided, refuted, decides_as, equal}
-use Rattle.inspect.proofs.Words.{chain_out, chain_in, chain_done, done_chain}
-use Rattle.formats.proofs.Bases.{size_least, sized_within}
-use borrow.Author.Rules.{rules}
+use Rattle.inspect.proofs.Words.{chain_out, chain_next, chain_done, done_chain}
 use Rattle.inspect.proofs.chain.Goals as goal
+use Rattle.inspect.proofs.chain.Goals.{In-loop}
 
-pub loop-left-init : goal.loop-left-init
-loop-left-init c = ((λ h. h), λ h. h)
+-- what a chain says of the next node
+next : (g : _) (c : In-loop g) → let x = c.args in
+    ChainBy g.F.Format.layout x.arena.now.words.now x.arena.now.count x.free x.first → OwnFreeBy g.F.Format.layout x.arena.now.words.now x.arena.now.count c.loop.at
+next g c h = (chain_out g.F.Format.layout c.args.arena.now.words.now c.args.arena.now.count (c.args.free - c.loop.counter) c.loop.at (omega arith) (c.loop.invariant.1 h)).0
 
-pub returns-then-at-count : goal.returns-then-at-count
-returns-then-at-count c =
-    λ h.
-    let l = c in
-    let x = l.args in
-    let o = chain_out x.f x.a.now x.count l.loop-left.left l.loop-left.at c.loop-left-test.true (l.loop-left.invariant.1 h) in
-    omega (arith, o.0.inside, c.if-at-count.true)
-
-pub own_free-requires : goal.own_free-requires
-own_free-requires c = search (rules, size_least, sized_within)
+pub returns-then-at-arena : goal.returns-then-at-arena
+returns-then-at-arena g c = λ h. omega (arith, (next g (goal.at.returns-then-at-arena g c).In-loop h).inside, c.if-at-arena.true)
 
 pub returns-then-not-own_free : goal.returns-then-not-own_free
-returns-then-not-own_free c =
-    λ h.
-    let l = c in
-    let x = l.args in
-    let o = chain_out x.f x.a.now x.count l.loop-left.left l.loop-left.at c.loop-left-test.true (l.loop-left.invariant.1 h) in
-    refuted c.own_free.result c.own_free.ensures c.if-not-own_free.true o.0.zero
-
-pub parent_of-next-requires : goal.parent_of-next-requires
-parent_of-next-requires c = search (rules, size_least, sized_within)
+returns-then-not-own_free g c = λ h. refuted c.own_free.result c.own_free.ensures c.if-not-own_free.true (next g (goal.at.returns-then-not-own_free g c).In-loop h).zero
 
 pub returns-then-next-at : goal.returns-then-next-at
-returns-then-next-at c =
-    λ h.
-    let l = c in
-    let x = l.args in
-    let o = chain_out x.f x.a.now x.count l.loop-left.left l.loop-left.at c.loop-left-test.true (l.loop-left.invariant.1 h) in
-    omega (arith, o.0.rise, c.parent_of-next.ensures, c.if-next-at.true)
+returns-then-next-at g c = λ h. omega (arith, (next g (goal.at.returns-then-next-at g c).In-loop h).rise, c.parent-next.ensures, c.if-next-at.true)
 
-pub loop-left-preserved : goal.loop-left-preserved
-loop-left-preserved c =
-    let l = c in
-    let x = l.args in
-    let some = c.loop-left-test.true in
-    let f = c.own_free in
-    let e = c.parent_of-next.ensures in (
-      (λ h. l.loop-left.invariant.0 (chain_in x.f x.a.now x.count l.loop-left.left l.loop-left.at some (record { inside = c.if-at-count.false; zero = decided f.result f.ensures c.if-not-own_free.false; rise = omega (arith, e, c.if-next-at.false) }) (rw e at h))),
-      λ h. rw e (chain_out x.f x.a.now x.count l.loop-left.left l.loop-left.at some (l.loop-left.invariant.1 h)).1,
-    )
+pub loop-preserved : goal.loop-preserved
+loop-preserved g c =
+    let e = c.parent-next.ensures in
+    let s = chain_next g.F.Format.layout c.args.arena.now.words.now c.args.arena.now.count c.args.free c.loop.counter c.loop.at c.parent-next.result c.loop-test.true e
+    (record { inside = c.if-at-arena.false; zero = decided c.own_free.result c.own_free.ensures c.if-not-own_free.false; rise = omega (arith, e, c.if-next-at.false) }) in
+    (λ h. c.loop.invariant.0 (s.1 h), λ h. s.0 (c.loop.invariant.1 h))
 
 pub returns : goal.returns
-returns c =
-    let l = c in
-    let x = l.args in
-    let z : l.loop-left.left ≡ 0 = omega arith in
-    decides_as (eqb l.loop-left.at none) (λ e. l.loop-left.invariant.0 (done_chain x.f x.a.now x.count l.loop-left.left l.loop-left.at z e)) (λ h. chain_done x.f x.a.now x.count l.loop-left.left l.loop-left.at z (l.loop-left.invariant.1 h)) (equal l.loop-left.at none)
+returns g c =
+    let x = c.args in
+    let l = c.loop in
+    let z : x.free - l.counter ≡ 0 = omega arith in
+    decides_as (eqb l.at none)
+    (λ e. l.invariant.0 (done_chain g.F.Format.layout x.arena.now.words.now x.arena.now.count (x.free - l.counter) l.at z e))
+    (λ h. chain_done g.F.Format.layout x.arena.now.words.now x.arena.now.count (x.free - l.counter) l.at z (l.invariant.1 h))
+    (equal l.at none)

@@ -1,9 +1,8 @@
 -- Assumes nothing.
+use Rattle.std.proofs.Common.{◌-◌, ◌↔◌}
 use Rattle.model.specs.Shape.{ChainBy}
 use Rattle.inspect.proofs.chain.Given as goal
 
-abbrev pub invariant-loop-left : goal.invariant-loop-left
-invariant-loop-left l = (ChainBy l.initial.f l.initial.a l.initial.count l.left l.at → ChainBy l.initial.f l.initial.a l.initial.count l.initial.free l.initial.first) × (ChainBy l.initial.f l.initial.a l.initial.count l.initial.free l.initial.first → ChainBy l.initial.f l.initial.a l.initial.count l.left l.at)
-
-abbrev pub decreases-loop-left : goal.decreases-loop-left
-decreases-loop-left l = l.left
+-- what is left is a chain exactly where the whole is
+abbrev pub invariant-loop : goal.invariant-loop
+invariant-loop g l = ChainBy g.F.Format.layout l.arena.words.now l.arena.count (l.free - l.counter) l.at ↔ ChainBy g.F.Format.layout l.arena.words.now l.arena.count l.free l.first

@@ -3,7 +3,7 @@
 use Prim.Native.Nat.{ℕ, ◌≤◌, ◌<◌, ◌+◌}
 use native.Mathlib.Nat.{eq-or-lt_of_le}
 use native.Mathlib.Omega.{arith}
-use mathlib.Core.Path.{◌≡◌, refl, sym, ◌∙◌}
+use mathlib.Core.Path.{◌≡◌, sym, ◌∙◌}
 use mathlib.Core.Logic.{⊎_elim}
 use lib.Bits.{bit_or}
 use lib.Dec.{eqb}
@@ -12,8 +12,6 @@ use mathlib.Core.List.{List}
 use Rattle.model.specs.Layout.{most, keys_word, values_word}
 use Rattle.inspect.proofs.Words.{or_left, or_right, or_both, rest_bare, bare_rest}
 use Rattle.inspect.proofs.Decisions.{decides_as, equal, apart}
-use Rattle.formats.proofs.Bases.{size_least, sized_within}
-use borrow.Author.Rules.{rules}
 use Rattle.inspect.proofs.rest_zero.Invariants.{Ored}
 use Rattle.inspect.proofs.rest_zero.Goals as goal
 
@@ -31,26 +29,14 @@ ored_more w b f t all x l q o =
       none = λ z. or_both all x (o.none z) (apart t f q.1 (λ m. q.0 m ∙ or_both k v (z t m l).0 (z t m l).1));
     }
 
-pub base_of-b-requires : goal.base_of-b-requires
-base_of-b-requires c = search (rules, size_least, sized_within)
-
-pub loop-i-init : goal.loop-i-init
-loop-i-init c = record { clear = λ e k l u. absurd (omega arith); none = λ z. refl }
-
-pub bounds-a-b : goal.bounds-a-b
-bounds-a-b c = let l = size_least c.args.f in search rules
-
-pub bounds-a-b-in-loop-i : goal.bounds-a-b-in-loop-i
-bounds-a-b-in-loop-i c = let l = size_least c.args.f in search rules
-
 pub loop-i-preserved : goal.loop-i-preserved
-loop-i-preserved c = ored_more _ _ _ _ _ _ (omega arith) c.kept-all.ensures c.loop-i.invariant
+loop-i-preserved g c = ored_more _ _ _ _ _ _ (omega arith) c.kept-all.ensures c.loop-i.invariant
 
 pub returns : goal.returns
-returns c =
-    let l = c in
-    let x = l.args in
-    decides_as (eqb l.loop-i.all 0)
-    (λ e. bare_rest x.f x.a.now x.node.0 x.n l.base_of-b.ensures (λ k f t. l.loop-i.invariant.clear e k f (omega arith)))
-    (λ z. l.loop-i.invariant.none (rest_bare x.f x.a.now x.node.0 x.n l.base_of-b.ensures z))
-    (equal l.loop-i.all 0)
+returns g c =
+    let l = c.loop-i in
+    let x = c.args in
+    decides_as (eqb l.all 0)
+    (λ e. bare_rest g.F.Format.layout x.arena.now.words.now x.node.0 x.n c.base-b.ensures (λ k f t. l.invariant.clear e k f (omega arith)))
+    (λ z. l.invariant.none (rest_bare g.F.Format.layout x.arena.now.words.now x.node.0 x.n c.base-b.ensures z))
+    (equal l.all 0)

@@ -1,7 +1,5 @@
 -- Assumes nothing.
-use Prim.Native.Nat.{ℕ, ◌-◌}
-use mathlib.Core.Path.{◌≡◌}
-use mathlib.Core.List.{List}
+use Rattle.std.proofs.Common.{ℕ, ◌≡◌, List}
 use Rattle.model.specs.Layout.{most}
 use Rattle.inspect.proofs.Words.{Bare}
 use Rattle.inspect.proofs.rest_zero.Given as goal
@@ -12,7 +10,4 @@ pub record Ored (w : List ℕ) (b f t all : ℕ) : Type 0 where
   pub none : Bare w b f most → all ≡ 0
 
 abbrev pub invariant-loop-i : goal.invariant-loop-i
-invariant-loop-i l = Ored l.initial.a l.initial.b l.initial.n l.i l.all
-
-abbrev pub decreases-loop-i : goal.decreases-loop-i
-decreases-loop-i l = most - l.i
+invariant-loop-i g l = Ored l.arena.words.now l.b l.n l.i l.all

@@ -2,7 +2,7 @@ use mathlib.Core.Path.{subst}
 use mathlib.Core.List.{List}
 use Rattle.model.specs.Tree.{Pair}
 use Rattle.model.proofs.Forward.{forward}
-use Rattle.merging.specs.Heads.{HeadOf}
+use Rattle.listing.specs.Heads.{HeadOf}
 use Rattle.merging.proofs.Merges.{start_at, start_after}
 use Rattle.merging.proofs.first.Goals as goal
 

@@ -10,7 +10,7 @@ pub len-t-requires : goal.len-t-requires
 len-t-requires c = let p = c.requires in (here p.arena p.holds.0).0
 
 pub loop-i-init : goal.loop-i-init
-loop-i-init c = (omega arith, λ h ns k a. c.len-t.ensures ∙ none_yet a k)
+loop-i-init c = λ h ns k a. c.len-t.ensures ∙ none_yet a k
 
 pub edge-child-requires : goal.edge-child-requires
 edge-child-requires c =
@@ -30,7 +30,7 @@ overflow_add-t c =
     let x = c.args in
     omega (
       arith,
-      l.invariant.1 p.head p.nodes p.holds.0 p.arena,
+      l.invariant p.head p.nodes p.holds.0 p.arena,
       one_more p.arena p.holds.0 l.i _ (omega arith) c.edge-child.ensures,
       c.total-t.ensures,
       sofar_few p.nodes x.n.0 (l.i + 1),
@@ -39,10 +39,8 @@ overflow_add-t c =
 
 pub loop-i-preserved : goal.loop-i-preserved
 loop-i-preserved c =
-    let l = c.loop-i in (
-      omega arith,
-      λ h ns k a. omega (arith, l.invariant.1 h ns k a, one_more a k l.i _ (omega arith) c.edge-child.ensures, c.total-t.ensures),
-    )
+    let l = c.loop-i in
+    λ h ns k a. omega (arith, l.invariant h ns k a, one_more a k l.i _ (omega arith) c.edge-child.ensures, c.total-t.ensures)
 
 pub returns : goal.returns
 returns c =
@@ -50,4 +48,4 @@ returns c =
     let x = c.args in
     let l = c.loop-i in
     let e : l.i ≡ x.end = omega arith in
-    l.invariant.1 h ns k a ∙ ap (sofar ns x.n.0) e ∙ sofar_all ns x.n.0 x.end k.count
+    l.invariant h ns k a ∙ ap (sofar ns x.n.0) e ∙ sofar_all ns x.n.0 x.end k.count
