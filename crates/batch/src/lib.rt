@@ -46,9 +46,9 @@ fn run(a: &mut [u64], code: u64, key: u64, val: u64) -> Answer
     ensures { (s : model.State) → Holds a.old s → Does (model.order (order_of code key val) s) a.new result }
 {
     match Request::try_from((code, key, val)) {
-        Ok(Request::Put(key, val)) => insert::put(a, key, val),
-        Ok(Request::Get(key)) => look(a, key),
-        Ok(Request::Delete(key)) => remove::delete(a, key),
+        Ok(Request::Put(key, val)) => Answer::former(insert::put(a, key, val)),
+        Ok(Request::Get(key)) => Answer::found(Ok(look(a, key))),
+        Ok(Request::Delete(key)) => Answer::found(Ok(remove::delete(a, key))),
         Ok(Request::Reserve(key)) => Answer::from(reserve::reserve(a, key)),
         Err(unknown) => Answer::from(unknown),
     }

@@ -7,6 +7,7 @@ ghost use Rattle.empties.specs.Taking.{Taken};
 
 use format::format;
 use map::{delete, put};
+use model::Answer;
 use std::io;
 use telling::{around, mix_words, mixed, say, say_line};
 
@@ -28,7 +29,7 @@ fn fill(a: &mut [u64], pairs: u64)
 {
     let _ = format(a);
     for key in 1..=pairs {
-        put(a, key, key + 1000);
+        let _ = put(a, key, key + 1000);
     }
 }
 
@@ -36,7 +37,7 @@ fn fill(a: &mut [u64], pairs: u64)
 fn take(a: &mut [u64], key: u64, mix: u64) -> u64
     ensures { Taken key mix a.old a.new result }
 {
-    let r = delete(a, key);
+    let r = Answer::found(delete(a, key));
     mix_words(mixed(mix, r.number().wrapping_add(r.word())), a)
 }
 

@@ -8,7 +8,7 @@ ghost use Rattle.fills.specs.Filling.{Fills};
 use checker::check;
 use format::format;
 use map::{get, put};
-use model::Answer;
+use model::{Answer, Refused};
 use std::io;
 use telling::{around, say, say_line};
 
@@ -33,8 +33,7 @@ fn puts(a: &mut [u64], first: u64, step: u64) -> u64
 {
     let mut key = first;
     for i in 0..TRIES {
-        let r = put(a, key, i);
-        if r.number() == 3 {
+        if let Err(Refused::NoRoom) = put(a, key, i) {
             return i;
         }
         key = around(key, step, ROUND);
@@ -47,10 +46,10 @@ fn fill(rt: &impl Print, a: &mut [u64], first: u64, step: u64) -> io::Result<()>
 {
     let _ = format(a);
     say(rt, puts(a, first, step))?;
-    tell(rt, put(a, first, 77))?;
-    tell(rt, put(a, ROUND, 0))?;
-    tell(rt, get(a, first))?;
-    tell(rt, get(a, ROUND))?;
+    tell(rt, Answer::former(put(a, first, 77)))?;
+    tell(rt, Answer::former(put(a, ROUND, 0)))?;
+    tell(rt, Answer::found(get(a, first)))?;
+    tell(rt, Answer::found(get(a, ROUND)))?;
     tell(rt, Answer::from(check(a)))?;
     println!(rt)?;
     say_line(rt, a)

@@ -7,7 +7,7 @@ ghost use Rattle.std.specs.Prelude.{◌≡◌, ◌+◌, ◌*◌, ◌<◌, ◌≤
 use format::format;
 use listing::list;
 use map::get;
-use model::{Listed, Range, SearchBound};
+use model::{Answer, Listed, Range, SearchBound};
 use node::NONE;
 use std::io;
 use telling::{say, say_line};
@@ -118,7 +118,7 @@ fn starts(rt: &impl Print, a: &[u64]) -> io::Result<()> {
 // Every key up to 150, in a row of answers.
 fn gets(rt: &impl Print, a: &[u64]) -> io::Result<()> {
     for key in 0..150 {
-        let r = get(a, key);
+        let r = Answer::found(get(a, key));
         say(rt, r.number())?;
         say(rt, r.word())?;
     }
