@@ -1,0 +1,3 @@
+-- The files of this crate's laws.
+-- Assumes nothing.
+pub mod Chunks

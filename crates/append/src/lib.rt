@@ -6,7 +6,7 @@ ghost use Rattle.std.specs.Prelude.{◌≡◌, List, length, set, ℕ, suc, ◌�
 ghost use Rattle.model.specs.Tree.{Pair, Whole};
 ghost use Rattle.model.specs.Lists.{All};
 ghost use Rattle.model.specs.Layout.{header, header_size, root_word, pairs_word, seen_word, mark_word, most, word_at, length_word, NodeVal, Arena};
-ghost use Rattle.model.specs.Mark.{Mark, Covers, seen_of, mark_of};
+ghost use Rattle.model.specs.Mark.{Covers, seen_of, mark_of};
 ghost use Rattle.model.specs.Sound.{Sound};
 ghost use Rattle.model.specs.Map.{Rising};
 ghost use Rattle.model.specs.Words.{words_of};
@@ -19,13 +19,14 @@ ghost use Rattle.internal.specs.Inner.{FitReady, fit_nodes};
 ghost use Rattle.standing.specs.Heads.{Rest, ClosedBy, Uncounted};
 ghost use Rattle.inspect.specs.Tests.{Decides};
 ghost use Rattle.appending.specs.Pushes as pushes;
-ghost use Rattle.appending.specs.Runs.{Begun, BegunIn, Ended, EndedIn, Tells, Loads, LoadsIn};
+ghost use Rattle.header.specs.Headers.{marked};
+ghost use Rattle.appending.specs.Runs.{Begun, BegunIn, Ended, EndedIn, Loads, LoadsIn};
 ghost use Rattle.appending.specs.Stocks.{Stocks, StocksIn, Pushed, PushedIn};
 
-use balance::bulk_steal_left;
+use balance::BalancingContext;
 use columns::{insert_word, set_len};
 use counting::count_node;
-use header::{HEIGHT, MARK, PAIRS, ROOT, SEEN};
+use header::PAIRS;
 use internal::{new_internal, push_internal_level};
 use node::{CAPACITY, EDGES, KEYS, Kv, LEAF, MIN_LEN, NodeNo, Place, VALS, ascend, edge, len};
 use store::{correct_childrens_parent_links, take_node};
@@ -44,10 +45,8 @@ fn right_side(a: &mut [u64], levels: usize) -> RightSide
 {
     let leaf = take_node(a, LEAF);
     let mut top = leaf;
-    let mut i = 1;
-    while i < levels {
+    for _level in 1..levels {
         top = new_internal(a, top);
-        i += 1;
     }
     RightSide { top, leaf }
 }
@@ -64,7 +63,6 @@ fn open_node(a: &mut [u64], leaf: NodeNo) -> Opening
     requires { pushes.RisingIn a.old leaf.0 1 }
     ensures { (g : Rest) (p : Pair) (t : load.Loading) → pushes.Rising a.old g leaf.0 1 p t → pushes.Roomy a.new g result.node.0 result.levels p t }
 {
-    let top = a[HEIGHT] as usize;
     let mut node = leaf;
     let mut levels = 1;
     loop {
@@ -170,7 +168,13 @@ fn stock_right_child(a: &mut [u64], node: NodeNo) -> NodeNo
     if k >= MIN_LEN {
         return right;
     }
-    bulk_steal_left(a, node, Place(at), left, right, MIN_LEN - k);
+    let context = BalancingContext {
+        parent: node,
+        at: Place(at),
+        left,
+        right,
+    };
+    context.bulk_steal_left(a, MIN_LEN - k);
     right
 }
 
@@ -179,11 +183,9 @@ pub fn fix_right_border_of_plentiful(a: &mut [u64])
     requires { PushedIn a.old }
     ensures { (g : Rest) (t : Whole) (free : List ℕ) → Pushed a.old g t free → ClosedBy Uncounted a.new g (record { whole = load.plenty t; free = free }) }
 {
-    let mut node = NodeNo(a[ROOT] as usize);
-    let mut height = a[HEIGHT];
-    while height > 0 {
+    let mut node = header::root(a);
+    for _height in (0..header::height(a)).rev() {
         node = stock_right_child(a, node);
-        height -= 1;
     }
 }
 
@@ -205,49 +207,56 @@ pub fn bulk_push(a: &mut [u64], run: &[u64])
     requires { BegunIn a.old run.now }
     ensures { (g : Rest) → Begun a.old g (header a.old root_word) run.now → Ended a.new g (load.push_all (pairs_of run.now) load.begun) }
 {
-    let mut leaf = NodeNo(a[ROOT] as usize);
-    let mut count = 0;
-    let mut i = 0;
-    while i < run.len() {
-        let key = run[i];
-        let val = run[i + 1];
-        let last = push_on(a, leaf, count, Kv(key, val));
-        leaf = last.leaf;
-        count = last.count;
-        i += 2;
+    let mut last = LastLeaf {
+        leaf: header::root(a),
+        count: 0,
+    };
+    let (pairs, _) = run.as_chunks::<2>();
+    for &[key, val] in pairs {
+        last = push_on(a, last.leaf, last.count, Kv(key, val));
     }
 }
 
-// Writes the pair count, and that a mark was seen.
-fn tell(a: &mut [u64], pairs: u64, seen: u64, mark: u64)
+// Writes the pair count and the mark.
+fn tell(a: &mut [u64], pairs: u64, mark: Option<u64>)
     requires { header_size ≤ length a.old }
-    ensures { (h : List ℕ) (ns : List NodeVal) → Arena a.old h ns → Arena a.new (set (set (set h pairs_word pairs) seen_word seen) mark_word mark) ns }
+    ensures { (h : List ℕ) (ns : List NodeVal) → Arena a.old h ns → Arena a.new (set (set (set h pairs_word pairs) seen_word (seen_of (marked mark))) mark_word (mark_of (marked mark))) ns }
 {
     a[PAIRS] = pairs;
-    a[SEEN] = seen;
-    a[MARK] = mark;
+    header::set_mark(a, mark);
 }
 
 // Ends a load: stocks the right border, sets the counts and writes the header.
-pub fn finish(a: &mut [u64], pairs: u64, seen: u64, mark: u64)
+pub fn finish(a: &mut [u64], pairs: u64, mark: Option<u64>)
     requires { EndedIn a.old }
-    ensures { (g : Rest) (ps : List Pair) (m : Mark) → Ended a.old g (load.push_all ps load.begun) → Tells m ps pairs seen mark → Sound (load.loaded_with m g.size ps) → a.new ≡ words_of (load.loaded_with m g.size ps) }
+    ensures { (g : Rest) (ps : List Pair) → Ended a.old g (load.push_all ps load.begun) → pairs ≡ length ps → Sound (load.loaded_with (marked mark) g.size ps) → a.new ≡ words_of (load.loaded_with (marked mark) g.size ps) }
 {
     fix_right_border_of_plentiful(a);
-    let root = NodeNo(a[ROOT] as usize);
-    let below = a[HEIGHT] as usize;
+    let root = header::root(a);
+    let below = header::height(a);
     count_node(a, root, below);
-    tell(a, pairs, seen, mark);
+    tell(a, pairs, mark);
 }
 
 // Loads a run that rises into a formatted arena with nodes enough, with a mark that no key exceeds.
-pub fn load_marked(a: &mut [u64], run: &[u64], seen: u64, mark: u64)
+pub fn load_marked(a: &mut [u64], run: &[u64], mark: Option<u64>)
     requires { LoadsIn a.old run.now }
-    ensures { (n : ℕ) (m : Mark) → Loads n a.old run.now → All (λ (p : Pair). Covers m p.key) (pairs_of run.now) → seen ≡ seen_of m → mark ≡ mark_of m → a.new ≡ words_of (load.loaded_with m n (pairs_of run.now)) }
+    ensures { (n : ℕ) → Loads n a.old run.now → All (λ (p : Pair). Covers (marked mark) p.key) (pairs_of run.now) → a.new ≡ words_of (load.loaded_with (marked mark) n (pairs_of run.now)) }
 {
     bulk_push(a, run);
     let n = run.len();
-    finish(a, (n / 2) as u64, seen, mark);
+    finish(a, (n / 2) as u64, mark);
+}
+
+// The last key of a run, which is its mark.
+fn last_key(run: &[u64]) -> Option<u64>
+    requires { Even (length run.now) }
+    ensures { marked result ≡ load.last_mark (pairs_of run.now) }
+{
+    match run {
+        [.., key, _] => Some(*key),
+        _ => None,
+    }
 }
 
 // Loads it with its last key as the mark.
@@ -255,13 +264,8 @@ pub fn load_formatted(a: &mut [u64], run: &[u64])
     requires { LoadsIn a.old run.now }
     ensures { (n : ℕ) → Loads n a.old run.now → a.new ≡ words_of (load.loaded n (pairs_of run.now)) }
 {
-    let n = run.len();
-    if n < 2 {
-        load_marked(a, run, 0, 0);
-        return;
-    }
-    let mark = run[n - 2];
-    load_marked(a, run, 1, mark);
+    let mark = last_key(run);
+    load_marked(a, run, mark);
 }
 
 // Whether the keys of a run rise strictly.
@@ -269,16 +273,6 @@ pub fn rises(run: &[u64]) -> bool
     requires { Even (length run.now) }
     ensures { Decides result (Rising (pairs_of run.now)) }
 {
-    let n = run.len();
-    if n < 4 {
-        return true;
-    }
-    let mut i = 2;
-    while i < n {
-        if run[i] <= run[i - 2] {
-            return false;
-        }
-        i += 2;
-    }
-    true
+    let (pairs, _) = run.as_chunks::<2>();
+    pairs.is_sorted_by(|pair, next| pair[0] < next[0])
 }

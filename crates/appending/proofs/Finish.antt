@@ -9,7 +9,7 @@ use lib.ListN.{length, get_or, set}
 use Rattle.model.specs.Lists.{All}
 use Rattle.model.specs.Layout.{header_size, pairs_word, seen_word, mark_word, header, root_word, height_word, NodeVal, Arena}
 use Rattle.model.specs.Tree.{Pair, Tree, top, Whole, plug}
-use Rattle.model.specs.Mark.{Mark, Covers, seen, seen_of, mark_of}
+use Rattle.model.specs.Mark.{Mark, Covers, unseen, seen, seen_of, mark_of}
 use Rattle.model.specs.Sound.{Sound, RootFull}
 use Rattle.model.specs.State.{formatted, list}
 use Rattle.model.specs.Words.{words_of}
@@ -109,21 +109,20 @@ last_key zero (k ∷ v ∷ k₂ ∷ v₂ ∷ ws) e = absurd (omega arith)
 last_key (suc j) (k ∷ v ∷ k₂ ∷ v₂ ∷ ws) e = let a : suc j + suc j ≡ suc (suc (j + j)) = omega arith in last_key j (k₂ ∷ v₂ ∷ ws) (omega arith) ∙ sym (ap (λ (i : ℕ). seen (get_or (k ∷ v ∷ k₂ ∷ v₂ ∷ ws) i 0)) a)
 
 -- no pair
-pub mark_none : (run : List ℕ) → length run < 2 → (0 ≡ seen_of (last_mark (pairs_of run))) × (0 ≡ mark_of (last_mark (pairs_of run)))
-mark_none [] l = (refl, refl)
-mark_none (k ∷ []) l = (refl, refl)
+pub mark_none : (run : List ℕ) → length run < 2 → unseen ≡ last_mark (pairs_of run)
+mark_none [] l = refl
+mark_none (k ∷ []) l = refl
 mark_none (k ∷ v ∷ ws) l = absurd (omega arith)
 
 -- the last key
-pub mark_last : (run : List ℕ) → Even (length run) → 2 ≤ length run → (m : ℕ) → m ≡ get_or run (length run - 2) 0 → (1 ≡ seen_of (last_mark (pairs_of run))) × (m ≡ mark_of (last_mark (pairs_of run)))
-mark_last run v l m em = go v.half v.is
+pub mark_last : (run : List ℕ) → Even (length run) → 2 ≤ length run → seen (get_or run (length run - 2) 0) ≡ last_mark (pairs_of run)
+mark_last run v l = go v.half v.is
   where
-    go : (j : ℕ) → length run ≡ j + j → (1 ≡ seen_of (last_mark (pairs_of run))) × (m ≡ mark_of (last_mark (pairs_of run)))
+    go : (j : ℕ) → length run ≡ j + j → seen (get_or run (length run - 2) 0) ≡ last_mark (pairs_of run)
     go zero e = absurd (omega arith)
     go (suc j) e =
         let a : length run - 2 ≡ j + j = omega arith in
-        let k = last_key j run e in
-        (sym (ap seen_of k), em ∙ (ap (λ (i : ℕ). get_or run i 0) a ∙ sym (ap mark_of k)))
+        ap (λ (i : ℕ). seen (get_or run i 0)) a ∙ sym (last_key j run e)
 
 -- ---- the load of a run
 

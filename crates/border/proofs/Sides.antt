@@ -5,6 +5,8 @@ use native.Mathlib.Numerals.{sub-one}
 use native.Mathlib.Omega.{arith}
 use mathlib.Core.Path.{◌≡◌, refl, ap, ◌∙◌, sym, subst}
 use mathlib.Core.Bool.{true, false}
+use Rattle.border.specs.declared.Border.{Border}
+use Rattle.border.specs.declared.Border.TheVariants as edge
 use mathlib.Core.List.{List, [], ◌∷◌}
 use lib.ListN.{length}
 use borrow.Author.Tests.{leb-false}
@@ -24,12 +26,13 @@ use Rattle.node.specs.Reading.{Within}
 use Rattle.standing.specs.Standing.{Hole}
 use Rattle.standing.proofs.Scenes.{zoom_in}
 use Rattle.shrinking.proofs.Steps.{beside_high, beside_low, hole_low, hole_high}
-use Rattle.fix.specs.declared.BalancingContext.{BalancingContext}
+use Rattle.node.specs.declared.LeftOrRight.{LeftOrRight}
+use Rattle.balance.specs.declared.BalancingContext.{BalancingContext}
 use Rattle.standing.specs.Heads.{Rest, HoleIn}
 use Rattle.fix.proofs.Holes.{closed_in, node_within, node_long, node_most, left_sibling, right_sibling, own_edge}
-use Rattle.fix.specs.Repairs.{Neighbours, MergeCall, Stealing, StealCall}
-use Rattle.fix.proofs.Balances.{word_left, word_right}
-use Rattle.border.specs.Borders.{Rooted, Topped, Descending, DescendsIn, down}
+use Rattle.fix.specs.Repairs.{side_of, both_of, Neighbours, MergeCall, Stealing, StealCall}
+use Rattle.fix.proofs.Balances.{word_left, word_right, sides_known}
+use Rattle.border.specs.Borders.{side_at, border_kv, border_child, Rooted, Topped, Descending, DescendsIn, down}
 use Rattle.border.proofs.Tops.{some_pairs, root_word_is, height_word_is, rooted_of, plug_some}
 
 -- ---- the border child of two neighbours, at the side s: the parent with its hole there
@@ -91,6 +94,13 @@ module _ {s : Side} {w : List ℕ} {g : Rest} {h : ℕ} {t : Grown} {b : Balanci
       go : (s : Side) → word_at w (child_no s b) length_word ≡ length (taker (other s) B.twin).rest
       go right = word_right B
       go left = word_left B
+
+  pub child_within : Within w (child_no s b)
+  child_within = go s
+    where
+      go : (s : Side) → Within w (child_no s b)
+      go right = (sides_known B).1
+      go left = (sides_known B).0
 
   module _ (e : can_merge q.both.twin ≡ false) where
     -- it has 6 or more
@@ -169,11 +179,11 @@ last_at n (x ∷ l) e [] o = record { item = x; lows = l; child = e; stocked = r
 last_at n [] e (x ∷ r) o = let k = last_at n (record { pair = x.pair; edge = e } ∷ []) x.edge r (omega arith) in record { item = k.item; lows = k.lows; child = k.child; stocked = k.stocked; filled = k.filled }
 last_at n (y ∷ l) e (x ∷ r) o = let k = last_at n (record { pair = x.pair; edge = e } ∷ y ∷ l) x.edge r (omega arith) in record { item = k.item; lows = k.lows; child = k.child; stocked = k.stocked; filled = k.filled }
 
+pub known : {s : Side} {w : List ℕ} {g : Rest} {node h : ℕ} {t : Grown} → (x : Descending s w g node (suc h) t) → Within w node × (word_at w node length_word ≡ length x.tree.rest) × (1 ≤ length x.tree.rest) × (length x.tree.rest ≤ most)
+known x = (rw x.node_is at (node_within x.way x.tree x.free x.held), rw x.node_is at (node_long x.way x.tree x.free x.held), x.some, node_most x.way x.tree x.free x.held)
+
 module _ {w : List ℕ} {g : Rest} {node h : ℕ} {t : Grown} where
   module _ (x : Descending right w g node (suc h) t) where
-    pub right_known : Within w node × (word_at w node length_word ≡ length x.tree.rest) × (1 ≤ length x.tree.rest) × (length x.tree.rest ≤ most)
-    right_known = (rw x.node_is at (node_within x.way x.tree x.free x.held), rw x.node_is at (node_long x.way x.tree x.free x.held), x.some, node_most x.way x.tree x.free x.held)
-
     abbrev L : LastAt x.tree.no [] x.tree.first x.tree.rest
     L = last_at x.tree.no [] x.tree.first x.tree.rest (omega (arith, x.some))
 
@@ -189,7 +199,7 @@ module _ {w : List ℕ} {g : Rest} {node h : ℕ} {t : Grown} where
     abbrev tw : Twin (Tree (suc h))
     tw = record { left = L.item.edge; pair = L.item.pair; right = L.child }
 
-    pub right_stocking : (i n : ℕ) → n ≡ length x.tree.rest → i ≡ n - 1 → (a b : NodeNo) → a.0 ≡ word_at w node (edges_word + i) → b.0 ≡ word_at w node (edges_word + n) → Stocking right w g h t (record { parent = record { 0 = node }; at = record { 0 = i }; left = a; right = b })
+    right_stocking : (i n : ℕ) → n ≡ length x.tree.rest → i ≡ n - 1 → (a b : NodeNo) → a.0 ≡ word_at w node (edges_word + i) → b.0 ≡ word_at w node (edges_word + n) → Stocking right w g h t (record { parent = record { 0 = node }; at = record { 0 = i }; left = a; right = b })
     right_stocking i n en ei a b ea eb =
         let ki : length L.lows ≡ i = omega (arith, count_is) in
         let kn : suc (length L.lows) ≡ n = omega (arith, count_is) in
@@ -214,10 +224,7 @@ module _ {w : List ℕ} {g : Rest} {node h : ℕ} {t : Grown} where
 
 -- the first edge
 module _ {w : List ℕ} {g : Rest} {node h : ℕ} {t : Grown} (x : Descending left w g node (suc h) t) where
-  pub left_within : Within w node
-  left_within = rw x.node_is at (node_within x.way x.tree x.free x.held)
-
-  pub left_stocking : (a b : NodeNo) → a.0 ≡ word_at w node (edges_word + 0) → b.0 ≡ word_at w node (edges_word + 1) → Stocking left w g h t (record { parent = record { 0 = node }; at = record { 0 = 0 }; left = a; right = b })
+  left_stocking : (a b : NodeNo) → a.0 ≡ word_at w node (edges_word + 0) → b.0 ≡ word_at w node (edges_word + 1) → Stocking left w g h t (record { parent = record { 0 = node }; at = record { 0 = 0 }; left = a; right = b })
   left_stocking a b ea eb = by x.tree.no x.tree.first x.tree.rest x.way x.free x.held x.node_is x.some x.same
     where
       by : (n : ℕ) (e : Tree (suc h)) (r : List (Item (Tree (suc h)))) (c : Ctx (suc (suc h))) (free : List ℕ) → HoleIn w g c (record { no = n; first = e; rest = r }) free → n ≡ node → 1 ≤ length r → fix_down left (suc h) c (record { no = n; first = e; rest = r }) free ≡ t
@@ -245,6 +252,55 @@ module _ {w : List ℕ} {g : Rest} {node h : ℕ} {t : Grown} (x : Descending le
             when_merged = λ m. sym (down_merged left c T free _ _ _ (balance_merged right (lacks e) (beside_right n [] e y r) m)) ∙ q;
             when_moved = λ m. sym (down_moved left c T free _ _ (balance_moved right (lacks e) (beside_right n [] e y r) m)) ∙ q;
           }
+
+-- ---- the same at either border, as the code has it
+
+module _ {w : List ℕ} {node : NodeNo} where
+  pub border_stocking : (b : Border) {g : Rest} {h : ℕ} {t : Grown} → Descending (side_at b) w g node.0 (suc h) t → Stocking (side_at b) w g h t (both_of (border_kv b w node))
+  border_stocking edge.Right x =
+      let n = word_at w node.0 length_word in
+      let e : n - 1 + 1 ≡ n = omega (arith, known x) in
+      right_stocking x (n - 1) n (known x).1 refl _ _ refl (ap (λ (i : ℕ). word_at w node.0 (edges_word + i)) e)
+  border_stocking edge.Left x = left_stocking x _ _ refl refl
+
+module _ (w : List ℕ) (node : NodeNo) where
+  pub sibling_side : (b : Border) → side_of (border_kv b w node) ≡ other (side_at b)
+  sibling_side edge.Right = refl
+  sibling_side edge.Left = refl
+
+  pub child_is_there : (b : Border) → (border_child (border_kv b w node)).0 ≡ child_no (side_at b) (both_of (border_kv b w node))
+  child_is_there edge.Right = refl
+  child_is_there edge.Left = refl
+
+module _ (b : Border) {w : List ℕ} {node : NodeNo} {g : Rest} {h : ℕ} {t : Grown} (x : Descending (side_at b) w g node.0 (suc h) t) {k : LeftOrRight BalancingContext} (is : k ≡ border_kv b w node) {n : BalancingContext} (both_is : n ≡ both_of k) where
+  pub here : Stocking (side_at b) w g h t n
+  here = subst (Stocking (side_at b) w g h t) (sym (both_is ∙ ap both_of is)) (border_stocking b x)
+
+  side_is : side_of k ≡ other (side_at b)
+  side_is = ap side_of is ∙ sibling_side w node b
+
+  module _ {c : NodeNo} (child : c ≡ border_child k) where
+    no_is : child_no (side_at b) n ≡ c.0
+    no_is = ap (child_no (side_at b)) (both_is ∙ ap both_of is) ∙ (sym (child_is_there w node b) ∙ sym (ap (λ (m : NodeNo). m.0) (child ∙ ap border_child is)))
+
+    pub child_in : Within w c.0
+    child_in = subst (Within w) no_is (child_within here)
+
+    module _ (apart : can_merge here.both.twin ≡ false) (long : ℕ) (long_is : long ≡ word_at w c.0 length_word) where
+      taken : long ≡ length (taker (other (side_at b)) here.both.twin).rest
+      taken = long_is ∙ (sym (ap (λ (m : ℕ). word_at w m length_word) no_is) ∙ child_word here)
+
+      pub left_alone : least < long → Descending (side_at b) w g c.0 h t
+      left_alone l = subst (λ (m : ℕ). Descending (side_at b) w g m h t) no_is (stock_stays here apart (omega (arith, taken)))
+
+      module _ (few : long ≤ least) (count : ℕ) (count_is : count ≡ least + 1 - long) where
+        pub stealing_in : Stealing (side_of k) w (both_of k) count
+        stealing_in = subst (λ (s : Side). Stealing s w (both_of k) count) (sym side_is) (subst (λ (m : BalancingContext). Stealing (other (side_at b)) w m count) both_is (stock_in here apart count (omega (arith, taken)) (omega (arith, taken))))
+
+        pub stocked : {w' : List ℕ} → StealCall (side_of k) w w' (both_of k) count → Descending (side_at b) w' g c.0 h t
+        stocked {w'} call =
+            let d : StealCall (other (side_at b)) w w' n count = subst (λ (m : BalancingContext). StealCall (other (side_at b)) w w' m count) (sym both_is) (subst (λ (s : Side). StealCall s w w' (both_of k) count) side_is call) in
+            subst (λ (m : ℕ). Descending (side_at b) w' g m h t) no_is (stock_moved here apart count (omega (arith, taken)) (omega (arith, taken)) d)
 
 -- ---- the way down: where it starts, a step, where it ends
 

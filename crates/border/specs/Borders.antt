@@ -1,19 +1,45 @@
 -- The arena's words during the repair of a border.
 -- Assumes nothing.
-use Rattle.std.specs.Prelude.{ℕ, zero, suc, ◌+◌, ◌≤◌, ◌≡◌, cond, List, ltb, length}
+use Rattle.std.specs.Prelude.{ℕ, zero, suc, ◌+◌, ◌-◌, ◌≤◌, ◌≡◌, cond, List, ltb, length}
 use Rattle.model.specs.Lists.{All, Rises, times}
-use Rattle.model.specs.Layout.{largest_count}
+use Rattle.model.specs.Layout.{largest_count, word_at, length_word, edges_word}
 use Rattle.model.specs.Tree.{Pair, Tree, Ctx, top, has_whole}
 use Rattle.model.specs.Mark.{Covers}
 use Rattle.model.specs.Map.{Rising}
 use Rattle.model.specs.State.{State, list}
 use Rattle.model.specs.Nodes.{Grown}
-use Rattle.model.specs.Insert.{Side}
+use Rattle.model.specs.Insert.{Side, left, right}
 use Rattle.model.specs.Border.{tops_of, down_of, fix_down, fix_border}
 use Rattle.model.specs.Words.{words_of}
 use Rattle.model.specs.Sizes.{Bordered}
 use Rattle.model.specs.Promise.{Holds}
 use Rattle.standing.specs.Heads.{Rest, HoleIn}
+use Rattle.node.specs.declared.NodeNo.{NodeNo}
+use Rattle.node.specs.declared.Place.{Place}
+use Rattle.node.specs.declared.LeftOrRight.{LeftOrRight}
+use Rattle.node.specs.declared.LeftOrRight.TheVariants.{Left, Right}
+use Rattle.balance.specs.declared.BalancingContext.{BalancingContext}
+use Rattle.border.specs.declared.Border.{Border}
+use Rattle.border.specs.declared.Border.TheVariants as edge
+
+-- the side that a border is at
+abbrev pub side_at : Border → Side
+side_at edge.Left = left
+side_at edge.Right = right
+
+-- the neighbours at a place of the node n, in words
+abbrev pub kv_at : List ℕ → NodeNo → Place → BalancingContext
+kv_at w n i = record { parent = n; at = i; left = record { 0 = word_at w n.0 (edges_word + i.0) }; right = record { 0 = word_at w n.0 (edges_word + (i.0 + 1)) } }
+
+-- the sibling of its last child, or of its first one
+abbrev pub border_kv : Border → List ℕ → NodeNo → LeftOrRight BalancingContext
+border_kv edge.Right w n = Left (kv_at w n (record { 0 = word_at w n.0 length_word - 1 }))
+border_kv edge.Left w n = Right (kv_at w n (record { 0 = 0 }))
+
+-- and that child
+abbrev pub border_child : LeftOrRight BalancingContext → NodeNo
+border_child (Left b) = b.right
+border_child (Right b) = b.left
 
 abbrev pub tops : Grown → Grown
 tops t = tops_of t.whole.height t.whole.root t.free

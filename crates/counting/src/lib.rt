@@ -6,8 +6,8 @@ ghost use Rattle.model.specs.Layout.{NodeVal, Arena};
 ghost use Rattle.node.specs.Reading.{Has};
 ghost use Rattle.counting.specs.Counting.{TreeIn, CountedIn, EdgesIn};
 
-use node::{NodeNo, Place, TOTAL, edge, len, node_base};
-use totals::set_right;
+use node::{NodeNo, Place, edge, len};
+use totals::{set_right, set_total};
 
 // Sets the count of a leaf.
 fn count_leaf(a: &mut [u64], n: NodeNo)
@@ -15,8 +15,7 @@ fn count_leaf(a: &mut [u64], n: NodeNo)
     ensures { (hd : List ℕ) (ns : List NodeVal) (t : TreeIn ns n.0 0) → Arena a.old hd ns → CountedIn a.new hd ns 0 t.tree }
 {
     let t = len(a, n) as u64;
-    let b = node_base(n);
-    a[b + TOTAL] = t;
+    set_total(a, n, t);
 }
 
 // Sets the counts of a node and of all below it, which has so many levels below it.

@@ -84,9 +84,6 @@ module _ (k : ℕ) {v : List ℕ} {s : State} (o : Holds v s) {w : List ℕ} {pa
     room = subst (λ (m : ℕ). nodes_for m ≤ n) U.pairs_are U.room;
   }
 
-  pub upper_tells : (seen mark : ℕ) → seen ≡ header v seen_word → mark ≡ header v mark_word → Tells s.mark (part_off k s) pairs seen mark
-  upper_tells seen mark p q = record { pairs_are = U.pairs_are; seen_is = p ∙ seen_is o; mark_is = q ∙ mark_is o }
-
   pub upper_sound : Sound (loaded_with s.mark n (part_off k s))
   upper_sound = part_sound k s o.sound n (subst (λ (m : ℕ). nodes_for m ≤ n) U.pairs_are U.room) U.sized.few
 

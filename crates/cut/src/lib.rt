@@ -75,17 +75,14 @@ fn load_upper(a: &[u64], b: &mut [u64], key: u64, pairs: usize, nodes: usize)
     let from = lower_leaf_edge(a, SearchBound::Included(key));
     write_all(b, nodes);
     push_after(a, b, from, pairs);
-    finish(b, pairs as u64, header::seen(a), header::mark(a));
+    finish(b, pairs as u64, header::stored_mark(a));
 }
 
 // Cuts the pairs from a key on off the first arena, into the second slice, whose words do not matter.
 pub fn cut(first: &mut [u64], second: &mut [u64], key: u64) -> Result<(), Refused>
     ensures { Promised (promise.cut key second.old) first.old first.new second.new (said_done result) }
 {
-    let nodes = node_count(second.len());
-    if nodes == 0 {
-        return Err(Refused::BadSize);
-    }
+    let nodes = node_count(second.len()).ok_or(Refused::BadSize)?;
     check(first)?;
     let pairs = (header::pairs(first) - passed(first, SearchBound::Included(key))) as usize;
     if nodes_for(pairs) > nodes {

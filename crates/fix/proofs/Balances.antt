@@ -26,8 +26,10 @@ use Rattle.store.specs.Links.{return_head}
 use Rattle.balance.specs.Moves.{merge_nodes, MergeReady, Mergeable, move_nodes, StealReady}
 use Rattle.standing.specs.Standing.{root_of, Beside}
 use Rattle.shrinking.proofs.Steps.{left_in, right_in, left_long, right_long, merge_ready, lends_left, lends_right, merge_long, merge_step, move_long, move_step, beside_low, beside_high, hole_low, hole_high}
-use Rattle.fix.specs.declared.BalancingContext.{BalancingContext}
-use Rattle.fix.specs.declared.ParentKv.TheVariants.{Left, Right, Root}
+use Rattle.std.proofs.Common.{None, Some}
+use Rattle.node.specs.declared.LeftOrRight.{LeftOrRight}
+use Rattle.node.specs.declared.LeftOrRight.TheVariants.{Left, Right}
+use Rattle.balance.specs.declared.BalancingContext.{BalancingContext}
 use Rattle.standing.specs.Heads.{Rest, head_words, top_of, HoleIn, ClosedIn}
 use Rattle.fix.specs.Repairs.{context_of, Neighbours, Merges, MergeCall, Stealing, StealCall}
 use Rattle.balance.specs.Moves.{Shaped}
@@ -38,7 +40,7 @@ use Rattle.standing.proofs.Scenes.{zoom_in, zoom_out}
 use Rattle.totals.specs.Settling.{above, ample, Settles}
 use Rattle.totals.proofs.Settling.{top_above, due_here, part_few, right_hole, right_kept, hole_part}
 use Rattle.totals.proofs.Siblings.{SetCall, SettleCall, merge_total, merge_told, move_total, move_told, child_told, lower_low, lower_in, lower_arena, upper_settles, both_done}
-use Rattle.fix.specs.Repairs.{Mending, Emptied, sibling, chosen}
+use Rattle.fix.specs.Repairs.{side_of, both_of, Mending, Emptied, sibling, chosen}
 use Rattle.fix.proofs.Holes.{closed_in, pop_keeps, hole_header, free_few}
 
 -- ---- what the store's calls are known to do
@@ -348,40 +350,40 @@ module _ {w : List ℕ} {g : Rest} {node : ℕ} {t : Grown} (m : Mending w g nod
       go {h} top x free H e l = subst (ClosedIn w g) (sym (pop_keeps h x free (omega arith)) ∙ e) (closed_in top x free H)
       go (under f c) x free H e l = subst (ClosedIn w g) (sym (shrink_enough f c x free (le-leb least (length x.rest) l)) ∙ e) (closed_in (under f c) x free H)
 
-  pub at_root : Root ≡ chosen m.way m.tree → 1 ≤ length m.tree.rest → ClosedIn w g t
+  pub at_root : None ≡ chosen m.way m.tree → 1 ≤ length m.tree.rest → ClosedIn w g t
   at_root r l = go m.way m.tree m.free m.held m.full m.same r l
     where
-      by : {h : ℕ} (n : ℕ) (l r : List (Item (Tree (suc h)))) (c : Ctx (suc (suc h))) (x : Tree (suc h)) → Len c (length l + length r) → Root ≡ sibling n l x r → ClosedIn w g t
+      by : {h : ℕ} (n : ℕ) (l r : List (Item (Tree (suc h)))) (c : Ctx (suc (suc h))) (x : Tree (suc h)) → Len c (length l + length r) → None ≡ sibling n l x r → ClosedIn w g t
       by n [] [] c x u e = absurd (omega (arith, len_some c (0 + 0) u))
       by n [] (y ∷ r) c x u e = let z : ◌≡◌ {A = ℕ} 0 1 = cc in absurd (omega arith)
       by n (y ∷ l) r c x u e = let z : ◌≡◌ {A = ℕ} 0 1 = cc in absurd (omega arith)
 
-      go : {h : ℕ} (c : Ctx (suc h)) (x : Tree (suc h)) (free : List ℕ) → HoleIn w g c x free → FullCtx c → shrink c x free ≡ t → Root ≡ chosen c x → 1 ≤ length x.rest → ClosedIn w g t
+      go : {h : ℕ} (c : Ctx (suc h)) (x : Tree (suc h)) (free : List ℕ) → HoleIn w g c x free → FullCtx c → shrink c x free ≡ t → None ≡ chosen c x → 1 ≤ length x.rest → ClosedIn w g t
       go {h} top x free H u e r l = subst (ClosedIn w g) (sym (pop_keeps h x free l) ∙ e) (closed_in top x free H)
       go (under f c) x free H u e r l = by f.no f.left f.right c x u.0 r
 
-  pub root_empty : Root ≡ chosen m.way m.tree → length m.tree.rest ≡ 0 → Emptied w g t
+  pub root_empty : None ≡ chosen m.way m.tree → length m.tree.rest ≡ 0 → Emptied w g t
   root_empty r l = go m.way m.tree m.free m.held m.full m.same r l
     where
       none_left : {A : Type 0} (l : List A) → length l ≡ 0 → l ≡ []
       none_left [] e = refl
       none_left (x ∷ l) e = absurd (omega arith)
 
-      by : {h : ℕ} (n : ℕ) (l r : List (Item (Tree (suc h)))) (c : Ctx (suc (suc h))) (x : Tree (suc h)) → Len c (length l + length r) → Root ≡ sibling n l x r → Emptied w g t
+      by : {h : ℕ} (n : ℕ) (l r : List (Item (Tree (suc h)))) (c : Ctx (suc (suc h))) (x : Tree (suc h)) → Len c (length l + length r) → None ≡ sibling n l x r → Emptied w g t
       by n [] [] c x u e = absurd (omega (arith, len_some c (0 + 0) u))
       by n [] (y ∷ r) c x u e = let z : ◌≡◌ {A = ℕ} 0 1 = cc in absurd (omega arith)
       by n (y ∷ l) r c x u e = let z : ◌≡◌ {A = ℕ} 0 1 = cc in absurd (omega arith)
 
-      go : {h : ℕ} (c : Ctx (suc h)) (x : Tree (suc h)) (free : List ℕ) → HoleIn w g c x free → FullCtx c → shrink c x free ≡ t → Root ≡ chosen c x → length x.rest ≡ 0 → Emptied w g t
+      go : {h : ℕ} (c : Ctx (suc h)) (x : Tree (suc h)) (free : List ℕ) → HoleIn w g c x free → FullCtx c → shrink c x free ≡ t → None ≡ chosen c x → length x.rest ≡ 0 → Emptied w g t
       go {h} top x free H u e r l = record { height = h; tree = x; free = free; held = H; bare = none_left x.rest l; same = e }
       go (under f c) x free H u e r l = by f.no f.left f.right c x u.0 r
 
   module _ (short : length m.tree.rest < least) (b : BalancingContext) where
-    pub left_pairing : Left b ≡ chosen m.way m.tree → Pairing left w g t b (length m.tree.rest)
+    left_pairing : Some (Left b) ≡ chosen m.way m.tree → Pairing left w g t b (length m.tree.rest)
     left_pairing r = go m.way m.tree m.free m.held m.full m.short m.same short r
       where
         by : {h : ℕ} (n : ℕ) (l r : List (Item (Tree (suc h)))) (c : Ctx (suc (suc h))) (x : Tree (suc h)) (free : List ℕ) → HoleIn w g (under (record { no = n; left = l; right = r }) c) x free → FullCtx (under (record { no = n; left = l; right = r }) c)
-            → least ≤ suc (length x.rest) → shrink (under (record { no = n; left = l; right = r }) c) x free ≡ t → length x.rest < least → Left b ≡ sibling n l x r → Pairing left w g t b (length x.rest)
+            → least ≤ suc (length x.rest) → shrink (under (record { no = n; left = l; right = r }) c) x free ≡ t → length x.rest < least → Some (Left b) ≡ sibling n l x r → Pairing left w g t b (length x.rest)
         by n [] [] c x free H u d e o r = let z : ◌≡◌ {A = ℕ} 0 1 = cc in absurd (omega arith)
         by n [] (y ∷ rs) c x free H u d e o r = let z : ◌≡◌ {A = ℕ} 0 1 = cc in absurd (omega arith)
         by {h} n (y ∷ l) rs c x free H u d e o r =
@@ -407,15 +409,15 @@ module _ {w : List ℕ} {g : Rest} {node : ℕ} {t : Grown} (m : Mending w g nod
               when_moved = λ v. sym (shrink_moved f c x free _ _ k (balance_moved left 1 (beside_left n y l x rs) v)) ∙ e;
             }
 
-        go : {h : ℕ} (c : Ctx (suc h)) (x : Tree (suc h)) (free : List ℕ) → HoleIn w g c x free → FullCtx c → Short c (length x.rest) → shrink c x free ≡ t → length x.rest < least → Left b ≡ chosen c x → Pairing left w g t b (length x.rest)
+        go : {h : ℕ} (c : Ctx (suc h)) (x : Tree (suc h)) (free : List ℕ) → HoleIn w g c x free → FullCtx c → Short c (length x.rest) → shrink c x free ≡ t → length x.rest < least → Some (Left b) ≡ chosen c x → Pairing left w g t b (length x.rest)
         go top x free H u d e o r = let z : ◌≡◌ {A = ℕ} 0 1 = cc in absurd (omega arith)
         go (under f c) x free H u d e o r = by f.no f.left f.right c x free H u d.0 e o r
 
-    pub right_pairing : Right b ≡ chosen m.way m.tree → Pairing right w g t b (length m.tree.rest)
+    right_pairing : Some (Right b) ≡ chosen m.way m.tree → Pairing right w g t b (length m.tree.rest)
     right_pairing r = go m.way m.tree m.free m.held m.full m.short m.same short r
       where
         by : {h : ℕ} (n : ℕ) (l r : List (Item (Tree (suc h)))) (c : Ctx (suc (suc h))) (x : Tree (suc h)) (free : List ℕ) → HoleIn w g (under (record { no = n; left = l; right = r }) c) x free → FullCtx (under (record { no = n; left = l; right = r }) c)
-            → least ≤ suc (length x.rest) → shrink (under (record { no = n; left = l; right = r }) c) x free ≡ t → length x.rest < least → Right b ≡ sibling n l x r → Pairing right w g t b (length x.rest)
+            → least ≤ suc (length x.rest) → shrink (under (record { no = n; left = l; right = r }) c) x free ≡ t → length x.rest < least → Some (Right b) ≡ sibling n l x r → Pairing right w g t b (length x.rest)
         by n [] [] c x free H u d e o r = let z : ◌≡◌ {A = ℕ} 0 1 = cc in absurd (omega arith)
         by n (y ∷ l) rs c x free H u d e o r = let z : ◌≡◌ {A = ℕ} 0 1 = cc in absurd (omega arith)
         by {h} n [] (y ∷ rs) c x free H u d e o r =
@@ -441,9 +443,13 @@ module _ {w : List ℕ} {g : Rest} {node : ℕ} {t : Grown} (m : Mending w g nod
               when_moved = λ v. sym (shrink_moved f c x free _ _ k (balance_moved right 1 (beside_right n [] x y rs) v)) ∙ e;
             }
 
-        go : {h : ℕ} (c : Ctx (suc h)) (x : Tree (suc h)) (free : List ℕ) → HoleIn w g c x free → FullCtx c → Short c (length x.rest) → shrink c x free ≡ t → length x.rest < least → Right b ≡ chosen c x → Pairing right w g t b (length x.rest)
+        go : {h : ℕ} (c : Ctx (suc h)) (x : Tree (suc h)) (free : List ℕ) → HoleIn w g c x free → FullCtx c → Short c (length x.rest) → shrink c x free ≡ t → length x.rest < least → Some (Right b) ≡ chosen c x → Pairing right w g t b (length x.rest)
         go top x free H u d e o r = let z : ◌≡◌ {A = ℕ} 0 1 = cc in absurd (omega arith)
         go (under f c) x free H u d e o r = by f.no f.left f.right c x free H u d.0 e o r
+
+  pub pairing : length m.tree.rest < least → (k : LeftOrRight BalancingContext) → Some k ≡ chosen m.way m.tree → Pairing (side_of k) w g t (both_of k) (length m.tree.rest)
+  pairing short (Left b) e = left_pairing short b e
+  pairing short (Right b) e = right_pairing short b e
 
 -- ---- how far the repair may go: with each merge there is one node less in use
 

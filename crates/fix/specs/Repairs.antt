@@ -1,18 +1,27 @@
 -- The arena's words during the repair: a tree with a hole; which sibling is chosen; the repair under way, and what it leaves.
 -- Assumes nothing.
-use Rattle.std.specs.Prelude.{ℕ, suc, ◌+◌, ◌≤◌, ◌≡◌, Bool, true, false, List, [], ◌∷◌, length}
+use Rattle.std.specs.Prelude.{Option, None, Some, Result, Ok, Err, ℕ, suc, ◌+◌, ◌≤◌, ◌≡◌, Bool, true, false, List, [], ◌∷◌, length}
 use Rattle.model.specs.Layout.{most, header, free_word}
 use Rattle.model.specs.Tree.{Item, Node, Tree, Ctx, top, under, fill, Twin}
 use Rattle.model.specs.Nodes.{Grown, returned}
 use Rattle.model.specs.Remove.{pop, shrink, join, can_merge, steal, lender, taker}
 use Rattle.model.specs.Sizes.{FullCtx, Short}
-use Rattle.model.specs.Insert.{Side}
+use Rattle.model.specs.Insert.{Side, left, right}
 use Rattle.standing.specs.Heads.{Rest, HoleIn, ClosedIn}
-use Rattle.fix.specs.declared.BalancingContext.{BalancingContext}
-use Rattle.fix.specs.declared.ParentKv.{ParentKv}
-use Rattle.fix.specs.declared.ParentKv.TheVariants.{Left, Right, Root}
-use Rattle.fix.specs.declared.Fixed.{Fixed}
-use Rattle.fix.specs.declared.Fixed.TheVariants.{Merged, Whole, EmptyRoot}
+use Rattle.node.specs.declared.NodeNo.{NodeNo}
+use Rattle.node.specs.declared.LeftOrRight.{LeftOrRight}
+use Rattle.node.specs.declared.LeftOrRight.TheVariants.{Left, Right}
+use Rattle.balance.specs.declared.BalancingContext.{BalancingContext}
+use Rattle.fix.specs.declared.EmptyRoot.{EmptyRoot}
+
+-- the side of a sibling, and the two neighbours, whichever of them it is
+abbrev pub side_of : LeftOrRight BalancingContext → Side
+side_of (Left b) = left
+side_of (Right b) = right
+
+abbrev pub both_of : LeftOrRight BalancingContext → BalancingContext
+both_of (Left b) = b
+both_of (Right b) = b
 
 -- two neighbours
 abbrev pub context_of : {A : Type 0} → ℕ → List (Item (Node A)) → Twin (Node A) → BalancingContext
@@ -78,20 +87,20 @@ pub record Emptied (w : List ℕ) (g : Rest) (t : Grown) : Type 0 where
   pub same : pop height tree free ≡ t
 
 -- the sibling of the node t, whose parent n has l and r left and right of it
-abbrev pub sibling : {A : Type 0} → ℕ → List (Item (Node A)) → Node A → List (Item (Node A)) → ParentKv
-sibling n (x ∷ l) t r = Left (record { parent = record { 0 = n }; at = record { 0 = length l }; left = record { 0 = x.edge.no }; right = record { 0 = t.no } })
-sibling n [] t (x ∷ r) = Right (record { parent = record { 0 = n }; at = record { 0 = 0 }; left = record { 0 = t.no }; right = record { 0 = x.edge.no } })
-sibling n [] t [] = Root
+abbrev pub sibling : {A : Type 0} → ℕ → List (Item (Node A)) → Node A → List (Item (Node A)) → Option (LeftOrRight BalancingContext)
+sibling n (x ∷ l) t r = Some (Left (record { parent = record { 0 = n }; at = record { 0 = length l }; left = record { 0 = x.edge.no }; right = record { 0 = t.no } }))
+sibling n [] t (x ∷ r) = Some (Right (record { parent = record { 0 = n }; at = record { 0 = 0 }; left = record { 0 = t.no }; right = record { 0 = x.edge.no } }))
+sibling n [] t [] = None
 
-abbrev pub chosen : {h : ℕ} → Ctx (suc h) → Tree (suc h) → ParentKv
-chosen top t = Root
+abbrev pub chosen : {h : ℕ} → Ctx (suc h) → Tree (suc h) → Option (LeftOrRight BalancingContext)
+chosen top t = None
 chosen (under f c) t = sibling f.no f.left t f.right
 
 -- what a repair through the parent makes of the words w; a merge returns one node
-abbrev pub Fixing : Fixed → List ℕ → List ℕ → Rest → Grown → Type 0
-Fixing (Merged p) w w' g t = Mending w' g p.0 t × (header w' free_word ≡ header w free_word + 1)
-Fixing Whole w w' g t = ClosedIn w' g t
-Fixing EmptyRoot w w' g t = Emptied w' g t
+abbrev pub Fixing : Result (Option NodeNo) EmptyRoot → List ℕ → List ℕ → Rest → Grown → Type 0
+Fixing (Ok (Some p)) w w' g t = Mending w' g p.0 t × (header w' free_word ≡ header w free_word + 1)
+Fixing (Ok None) w w' g t = ClosedIn w' g t
+Fixing (Err e) w w' g t = Emptied w' g t
 
 -- what the whole repair leaves, by its answer
 abbrev pub Ended : Bool → List ℕ → Rest → Grown → Type 0

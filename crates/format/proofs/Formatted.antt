@@ -4,21 +4,16 @@ use Prim.Native.Nat.{ℕ, zero, suc, ◌+◌, ◌-◌, ◌≤◌, ◌<◌}
 use native.Mathlib.Numerals.{add-one}
 use native.Mathlib.Omega.{arith}
 use mathlib.Core.Path.{◌≡◌, refl, sym, ap, ap₂, ◌∙◌}
-use mathlib.Core.Logic.{inl, inr}
 use mathlib.Core.List.{List, ◌∷◌, ◌++◌, append_assoc, append-nil}
 use lib.ListN.{length, take, drop, set, replicate, length-append, length-take}
 use lib.Seq.{take_all}
 use borrow.Author.Tests.{eq-eqb, ne_eqb}
-use Rattle.model.specs.declared.Answer.TheVariants.{Done, BadSize}
 use Rattle.model.specs.Lists.{count, pad}
-use Rattle.model.specs.Layout.{none, format_number, header_size, node_size, free, leaf, base, Sized, format_word, count_word, offset_word, first_free_word, free_word, state_word, parent_word, frame, node_words_by, node_words, cells, arena_by}
+use Rattle.model.specs.Layout.{none, format_number, header_size, node_size, free, leaf, base, format_word, count_word, offset_word, first_free_word, free_word, state_word, parent_word, frame, node_words_by, node_words, cells, arena_by}
 use Rattle.model.specs.State.{formatted}
 use Rattle.model.specs.Words.{Block, free_val, first_or, chain_blocks, val_at, nodes_from, header_of, words_of_by, words_of}
-use Rattle.model.specs.Promise.{Format}
 use Rattle.slices.specs.Words.{splice}
 use Rattle.slices.proofs.Laws.{take_on, lent, splice_length}
-use Rattle.header.specs.Headers.{Counted}
-use Rattle.header.proofs.Headed.{unsized}
 use Rattle.format.specs.Formatting.{chain_after, empty_node, free_nodes}
 
 -- ---- the chain
@@ -128,11 +123,3 @@ all_words h p t w n u e f g =
     ∙ append_assoc h p (cells (free_nodes 1 (n - 1)))
     ∙ ap₂ (λ x y. x ++ (y ++ cells (free_nodes 1 (n - 1)))) e f
     ∙ sym (formatted_words n u)
-
--- ---- the call
-
-pub refused : (w : List ℕ) (n : ℕ) → n ≡ 0 → Counted (length w) n → Format w w BadSize
-refused w n z c = inl (unsized n (length w) z c, (refl, refl))
-
-pub done : (w w' : List ℕ) (n : ℕ) → Sized n (length w) → w' ≡ words_of (formatted n) → Format w w' Done
-done w w' n s e = inr ((λ b. b (record { count = n; sized = s })), record { count = n; sized = s; left = e; said = refl })

@@ -5,14 +5,14 @@ ghost use Rattle.std.specs.Prelude.{◌≡◌, ◌-◌, ◌<◌, ◌≤◌, ◌+
 ghost use Rattle.model.specs.Layout.{Sized, base, cells, header_size, largest_count, node_size, node_words};
 ghost use Rattle.model.specs.State.{formatted};
 ghost use Rattle.model.specs.Words.{first_or, header_of, words_of};
+ghost use Rattle.model.specs.Answer.{said_done};
 ghost use Rattle.model.specs.Public.{Promised};
 ghost use Rattle.model.specs.Public as promise;
 ghost use Rattle.format.specs.Formatting.{chain_after, empty_node, free_nodes};
 
 use header::{COUNT, FIRST_FREE, FORMAT, FREE_NODES, OFFSET, node_count};
-use model::Answer;
+use model::Refused;
 use node::{FREE, HEADER, LEAF, NONE, NodeNo, PARENT, STATE, WORDS, node_base};
-use slices::clear;
 
 // The node after n in the chain, or NONE.
 fn next(n: usize, count: usize) -> u64
@@ -32,7 +32,7 @@ fn write_header(s: &mut [u64], count: usize)
 {
     let first = next(0, count);
     let free = count - 1;
-    clear(s);
+    s.fill(0);
     s[FORMAT] = 2;
     s[COUNT] = count as u64;
     s[OFFSET] = HEADER as u64;
@@ -41,11 +41,11 @@ fn write_header(s: &mut [u64], count: usize)
 }
 
 // The words of a node with no pairs.
-fn write_node(s: &mut [u64], state: u64, link: u64)
+pub fn write_node(s: &mut [u64], state: u64, link: u64)
     requires { length s.old ≡ node_size }
     ensures { s.new ≡ node_words (empty_node state link) }
 {
-    clear(s);
+    s.fill(0);
     s[STATE] = state;
     s[PARENT] = link;
 }
@@ -55,12 +55,10 @@ fn write_chain(a: &mut [u64], count: usize)
     requires { Sized count (length a.old) }
     ensures { a.new ≡ take (base 1) a.old ++ cells (free_nodes 1 (count - 1)) }
 {
-    let mut i: usize = 1;
-    while i < count {
+    for i in 1..count {
         let b = node_base(NodeNo(i));
         let e = b + WORDS;
         write_node(&mut a[b..e], FREE, next(i, count));
-        i += 1;
     }
 }
 
@@ -77,13 +75,10 @@ pub fn write_all(a: &mut [u64], count: usize)
 }
 
 // Formats the words; BadSize for a length that no arena has.
-pub fn format(a: &mut [u64]) -> Answer
-    ensures { Promised promise.format a.old a.new tt result }
+pub fn format(a: &mut [u64]) -> Result<(), Refused>
+    ensures { Promised promise.format a.old a.new tt (said_done result) }
 {
-    let count = node_count(a.len());
-    if count == 0 {
-        return Answer::BadSize;
-    }
+    let count = node_count(a.len()).ok_or(Refused::BadSize)?;
     write_all(a, count);
-    Answer::Done
+    Ok(())
 }

@@ -3,7 +3,8 @@
 
 ghost use Rattle.std.specs.Prelude.{◌≡◌, ◌+◌, ◌-◌, ◌<◌, ◌≤◌, length, set};
 ghost use Rattle.model.specs.Layout.{header_size, header, format_word, count_word, offset_word, root_word, height_word, pairs_word, first_free_word, free_word, seen_word, mark_word};
-ghost use Rattle.header.specs.Headers.{Counted, raised};
+ghost use Rattle.model.specs.Mark.{seen_of, mark_of, stored_mark};
+ghost use Rattle.header.specs.Headers.{Counted, marked, raised};
 
 use node::{HEADER, NodeNo, WORDS};
 
@@ -33,21 +34,18 @@ pub const LARGEST: usize = 1_048_575;
 
 pub const HIGHEST: usize = 8;
 
-// How many nodes a slice of so many words is an arena of; 0 if of none.
-pub fn node_count(long: usize) -> usize
+// How many nodes a slice of so many words is an arena of; None if of none.
+pub fn node_count(long: usize) -> Option<usize>
     ensures { Counted long result }
 {
     if long < HEADER {
-        return 0;
+        return None;
     }
     let count = (long - HEADER) / WORDS;
-    if count > LARGEST {
-        return 0;
+    if count == 0 || count > LARGEST || HEADER + WORDS * count != long {
+        return None;
     }
-    if HEADER + WORDS * count != long {
-        return 0;
-    }
-    count
+    Some(count)
 }
 
 // The number of the format.
@@ -166,4 +164,23 @@ pub fn raise_mark(a: &mut [u64], key: u64)
 {
     a[MARK] = a[MARK].max(key);
     a[SEEN] = 1;
+}
+
+// The mark as a value: None until one was seen. An Option's own order is that of marks.
+pub fn stored_mark(a: &[u64]) -> Option<u64>
+    requires { header_size ≤ length a.now }
+    ensures { marked result ≡ stored_mark a.now }
+{
+    if a[SEEN] == 0 {
+        return None;
+    }
+    Some(a[MARK])
+}
+
+pub fn set_mark(a: &mut [u64], mark: Option<u64>)
+    requires { header_size ≤ length a.old }
+    ensures { a.new ≡ set (set a.old seen_word (seen_of (marked mark))) mark_word (mark_of (marked mark)) }
+{
+    a[SEEN] = u64::from(mark.is_some());
+    a[MARK] = mark.unwrap_or(0);
 }

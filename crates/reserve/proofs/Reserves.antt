@@ -1,33 +1,21 @@
 -- What a reserve reads off the header, and the words that it leaves.
 -- Assumes nothing.
-use Prim.Native.Nat.{ℕ, zero, suc, max}
+use Prim.Native.Nat.{ℕ, max}
 use native.Mathlib.Omega.{arith}
 use mathlib.Core.Path.{◌≡◌, refl, sym, ap, ◌∙◌}
 use mathlib.Core.Bool.{true, false}
 use mathlib.Core.List.{List}
-use lib.Dec.{leb}
 use borrow.Author.Tests.{leb-false}
 use lib.ListN.{set}
 use Rattle.model.specs.declared.Answer.TheVariants.{Done, Spent}
 use Rattle.model.specs.Layout.{header, seen_word, mark_word, arena_by}
-use Rattle.model.specs.Mark.{Mark, unseen, seen, reached, mark_of, mark_by, stored_mark}
+use Rattle.model.specs.Mark.{Mark, unseen, seen, reached, mark_of, stored_mark}
 use Rattle.model.specs.State.{State, reserve}
 use Rattle.model.specs.Words.{words_of_by, words_of}
 use Rattle.model.specs.Promise.{Holds, Does}
 use Rattle.model.proofs.Header.{stored_mark_is, mark_is}
 use Rattle.model.proofs.Ends.{stays, does_as}
 use Rattle.header.specs.Headers.{raised}
-
-module _ (k : ℕ) (w : List ℕ) where
-  pub not_seen : header w seen_word ≡ 0 → false ≡ reached k (stored_mark w)
-  not_seen e = rw e refl
-
-  pub by_mark : (header w seen_word ≡ 0 → ⊥) → leb k (header w mark_word) ≡ reached k (stored_mark w)
-  by_mark n = go (header w seen_word) n
-    where
-      go : (s : ℕ) → (s ≡ 0 → ⊥) → leb k (header w mark_word) ≡ reached k (mark_by s (header w mark_word))
-      go zero n = absurd (n refl)
-      go (suc s) n = refl
 
 -- the state with another mark, in words
 marked_words : (s : State) (k : ℕ) → words_of (record { size = s.size; whole = s.whole; free = s.free; mark = seen k }) ≡ set (set (words_of s) mark_word k) seen_word 1

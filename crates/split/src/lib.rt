@@ -9,9 +9,7 @@ ghost use Rattle.columns.specs.Columns.{put_column};
 ghost use Rattle.cutting.specs.Trims.{shortened, cut_node, CutReady, Goal, Trims, TrimsIn, Trimmed};
 
 use columns::set_len;
-use header::HEIGHT;
 use node::{CAPACITY, EDGES, KEYS, NodeNo, Place, VALS, ascend, node_base};
-use slices::clear;
 use totals::set_right;
 
 // Clears a column of a node from a place on.
@@ -22,7 +20,7 @@ fn clear_from(a: &mut [u64], n: NodeNo, col: usize, from: usize, end: usize)
     let b = node_base(n) + col;
     let s = b + from;
     let e = b + end;
-    clear(&mut a[s..e]);
+    a[s..e].fill(0);
 }
 
 // A node keeps its pairs left of an edge, and the edges up to that one.
@@ -51,15 +49,13 @@ pub fn cut_along(a: &mut [u64], leaf: NodeNo, edge: Place)
     requires { TrimsIn a.old leaf.0 edge.0 }
     ensures { (hd : List ℕ) (g : Goal) → Trims a.old hd g leaf.0 edge.0 (header hd height_word) → Trimmed a.new hd g }
 {
-    let mut levels = a[HEIGHT] as usize;
     let mut node = leaf;
     let mut at = edge;
-    loop {
+    for _level in 0..=header::height(a) {
         cut_node(a, node, at);
         let Some((parent, place)) = ascend(a, node) else {
             return;
         };
-        levels -= 1;
         node = parent;
         at = place;
     }

@@ -8,9 +8,8 @@ ghost use Rattle.node.specs.Reading.{Within, Has};
 ghost use Rattle.cutting.specs.Sweep as spec;
 ghost use Rattle.cutting.specs.Sweep.{swept, swept_head};
 
-use header::{COUNT, FIRST_FREE, FREE_NODES};
-use node::{FREE, NONE, NodeNo, PARENT, Place, WORDS, key, len, node_base, state};
-use slices::clear;
+use format::write_node;
+use node::{FREE, NONE, NodeNo, Place, WORDS, key, len, node_base, state};
 
 // Is a node free, or has it only keys from `least` on? (Those on the way of the cut have none such left.)
 fn goes(a: &[u64], n: NodeNo, least: u64) -> bool
@@ -29,15 +28,6 @@ fn goes(a: &[u64], n: NodeNo, least: u64) -> bool
     false
 }
 
-// The words of a free node.
-fn write_free(s: &mut [u64], next: u64)
-    requires { length s.old ≡ node_size }
-    ensures { s.new ≡ node_words (free_val next) }
-{
-    clear(s);
-    s[PARENT] = next;
-}
-
 // A node becomes a free one, with the next of the chain.
 fn set_free(a: &mut [u64], n: NodeNo, next: u64)
     requires { Within a.old n.0 }
@@ -45,7 +35,7 @@ fn set_free(a: &mut [u64], n: NodeNo, next: u64)
 {
     let b = node_base(n);
     let e = b + WORDS;
-    write_free(&mut a[b..e], next);
+    write_node(&mut a[b..e], FREE, next);
 }
 
 // The nodes that go become the free chain.
@@ -54,16 +44,13 @@ pub fn sweep(a: &mut [u64], least: u64)
     ensures { (h : List ℕ) (ns : List NodeVal) → header h count_word ≡ length ns → Arena a.old h ns → Arena a.new (swept_head least h ns) (swept least 0 ns) }
 {
     let mut first = NONE;
-    let mut free: u64 = 0;
-    let mut n = a[COUNT] as usize;
-    while n > 0 {
-        n -= 1;
+    let mut free = 0;
+    for n in (0..header::count(a)).rev() {
         if goes(a, NodeNo(n), least) {
             set_free(a, NodeNo(n), first);
             first = n as u64;
             free += 1;
         }
     }
-    a[FIRST_FREE] = first;
-    a[FREE_NODES] = free;
+    header::set_free_nodes(a, first, free);
 }

@@ -13,7 +13,7 @@ use Rattle.node.proofs.Fields.{stored, total_set, first, done}
 use Rattle.node.proofs.Reading.{within, edge_is, total_is, len_is}
 use Rattle.store.specs.Links.{LinkReady}
 use Rattle.store.proofs.All.{all_at}
-use Rattle.standing.specs.Totals.{totals, due, put_total, recount, with_total}
+use Rattle.standing.specs.Totals.{totals, due, put_total, with_total}
 
 -- the counts of the first i of some nodes
 totals_more : (ns : List NodeVal) (cs : List ℕ) (i : ℕ) → i < length cs → totals ns (take (i + 1) cs) ≡ totals ns (take i cs) + (nth ns (get_or cs i 0)).total
@@ -60,8 +60,5 @@ module _ {w h : List ℕ} {ns : List NodeVal} {n e : ℕ} (a : Arena w h ns) (k 
     one_more = omega (arith, totals_more ns (nth ns n).edges i (omega (arith, k.count)), total_is a c inside, ap (λ (x : ℕ). (nth ns x).total) child)
 
 -- a count written
-pub total_put : {w h : List ℕ} {ns : List NodeVal} → Arena w h ns → (n b x : ℕ) → n < length ns → b ≡ base n → x ≡ due ns n → Arena (set w (b + total_word) x) h (recount ns n)
-total_put {ns = ns} a n b x o eb ex = rw (eb, ex) (done ns n o _ (with_total (nth ns n) (due ns n)) refl (first ns n o (totalled (due ns n)) (total_set (stored a) n (rw length-map o) (due ns n))))
-
-pub total_at : {w h : List ℕ} {ns : List NodeVal} → Arena w h ns → (n b x y : ℕ) → n < length ns → b ≡ base n → x ≡ y → Arena (set w (b + total_word) x) h (put_total ns n y)
-total_at {ns = ns} a n b x y o eb ex = rw (eb, ex) (done ns n o _ (with_total (nth ns n) y) refl (first ns n o (totalled y) (total_set (stored a) n (rw length-map o) y)))
+pub total_put : {w h : List ℕ} {ns : List NodeVal} → Arena w h ns → (n b x : ℕ) → n < length ns → b ≡ base n → Arena (set w (b + total_word) x) h (put_total ns n x)
+total_put {ns = ns} a n b x o e = rw e (done ns n o _ (with_total (nth ns n) x) refl (first ns n o (totalled x) (total_set (stored a) n (rw length-map o) x)))

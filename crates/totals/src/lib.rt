@@ -44,14 +44,22 @@ fn due_of(a: &[u64], n: NodeNo) -> u64
     tally(a, n, end)
 }
 
+// Writes the count of a node.
+pub fn set_total(a: &mut [u64], n: NodeNo, total: u64)
+    requires { Within a.old n.0 }
+    ensures { (h : List ℕ) (ns : List NodeVal) → n.0 < length ns → Arena a.old h ns → Arena a.new h (put_total ns n.0 total) }
+{
+    let b = node_base(n);
+    a[b + TOTAL] = total;
+}
+
 // A count changed as `was` is to `is`.
 fn change(a: &mut [u64], n: NodeNo, was: u64, is: u64)
     requires { Within a.old n.0 × (word_at a.old n.0 total_word + is < 18446744073709551616) × (was ≤ word_at a.old n.0 total_word + is) }
     ensures { (h : List ℕ) (ns : List NodeVal) → n.0 < length ns → Arena a.old h ns → Arena a.new h (put_total ns n.0 ((nth ns n.0).total + is - was)) }
 {
     let t = total(a, n) + is - was;
-    let b = node_base(n);
-    a[b + TOTAL] = t;
+    set_total(a, n, t);
 }
 
 // The count of a node is set right.
@@ -60,8 +68,7 @@ pub fn set_right(a: &mut [u64], n: NodeNo)
     ensures { (h : List ℕ) (ns : List NodeVal) → Shaped ns n.0 → Arena a.old h ns → Arena a.new h (recount ns n.0) }
 {
     let t = due_of(a, n);
-    let b = node_base(n);
-    a[b + TOTAL] = t;
+    set_total(a, n, t);
 }
 
 // The count of a node and of all above it changed as `was` is to `is`.
@@ -69,14 +76,12 @@ fn lift(a: &mut [u64], n: NodeNo, was: u64, is: u64)
     requires { Has a.old (λ h ns. Lifts ns n.0 (header h height_word) was is) }
     ensures { (h : List ℕ) (ns : List NodeVal) → Lifts ns n.0 (header h height_word) was is → Arena a.old h ns → Settled a.new h ns }
 {
-    let mut levels = header::height(a);
     let mut node = n;
-    loop {
+    for _ in 0..=header::height(a) {
         change(a, node, was, is);
         let Some((parent, _)) = ascend(a, node) else {
             return;
         };
-        levels -= 1;
         node = parent;
     }
 }

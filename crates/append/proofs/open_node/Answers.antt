@@ -9,16 +9,13 @@ use Rattle.model.specs.Tree.{Pair}
 use Rattle.standing.specs.Heads.{Rest}
 use Rattle.model.specs.Load.{Loading}
 use Rattle.appending.specs.Pushes.{Rising}
-use Rattle.appending.proofs.Climbs.{rising_within, rising_low, rising_few, rising_head, above_within, above_roomy, above_full, rooting}
+use Rattle.appending.proofs.Climbs.{rising_within, rising_low, rising_few, above_within, above_roomy, above_full, rooting}
 use Rattle.append.proofs.open_node.Goals as goal
 use Rattle.append.proofs.open_node.Goals.{At-loop-parent, Else-len-lt-CAPACITY}
 
 -- where the push is, of a load that the caller knows of
 known : (c : At-loop-parent) → let s = c.requires in Rising c.loop-parent.a s.rest c.loop-parent.node.0 c.loop-parent.levels s.pair s.end
 known c = let s = c.requires in c.loop-parent.invariant.1 s.rest s.pair s.end s.rising
-
-pub bounds-a-4 : goal.bounds-a-4
-bounds-a-4 c = rising_head c.requires.rising
 
 pub loop-parent-init : goal.loop-parent-init
 loop-parent-init c = (refl, λ g p t k. k)

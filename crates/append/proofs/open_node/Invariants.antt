@@ -1,6 +1,7 @@
 -- Assumes nothing.
 use Prim.Native.Nat.{◌+◌, ◌-◌}
 use mathlib.Core.Path.{◌≡◌}
+use Rattle.model.specs.Layout.{header, height_word}
 use Rattle.model.specs.Tree.{Pair}
 use Rattle.standing.specs.Heads.{Rest}
 use Rattle.model.specs.Load.{Loading}
@@ -11,4 +12,4 @@ abbrev pub invariant-loop-parent : goal.invariant-loop-parent
 invariant-loop-parent l = (l.a ≡ l.initial.a) × ((g : Rest) (p : Pair) (t : Loading) → Rising l.initial.a g l.initial.node.0 l.initial.levels p t → Rising l.a g l.node.0 l.levels p t)
 
 abbrev pub decreases-loop-parent : goal.decreases-loop-parent
-decreases-loop-parent l = l.initial.top + 1 - l.levels
+decreases-loop-parent l = header l.initial.a height_word + 1 - l.levels

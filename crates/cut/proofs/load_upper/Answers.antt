@@ -1,11 +1,11 @@
 -- `cut::load_upper` meets its contract: formatted, pushed, ended.
 -- Assumes nothing.
-use native.Mathlib.Omega.{arith}
 use Rattle.model.specs.State.{formatted}
 use Rattle.model.specs.Parting.{part_off}
 use Rattle.model.proofs.Backward.{backward}
 use Rattle.standing.specs.Heads.{rest_of}
-use Rattle.cut.proofs.Moves.{upper_moves, upper_tells, upper_sound, head_in}
+use Rattle.model.proofs.Header.{stored_mark_is}
+use Rattle.cut.proofs.Moves.{upper_moves, upper_sound, head_in}
 use Rattle.cut.proofs.load_upper.Goals as goal
 
 pub lower_leaf_edge-from-requires : goal.lower_leaf_edge-from-requires
@@ -27,11 +27,8 @@ push_after-requires c =
       moving = upper_moves x.args.key p.holds p.upper d.result (d.ensures p.state p.holds) _ c.write_all.ensures;
     }
 
-pub seen-requires : goal.seen-requires
-seen-requires c = omega (arith, head_in c.requires.holds)
-
-pub mark-requires : goal.mark-requires
-mark-requires c = omega (arith, head_in c.requires.holds)
+pub stored_mark-requires : goal.stored_mark-requires
+stored_mark-requires c = head_in c.requires.holds
 
 pub finish-requires : goal.finish-requires
 finish-requires c =
@@ -50,4 +47,4 @@ returns c = λ s o u.
     let d = c.lower_leaf_edge-from in
     let r = rest_of (formatted x.nodes) in
     let ps = part_off x.key s in
-    c.finish.ensures r ps s.mark (c.push_after.ensures s o r ps (upper_moves x.key o u d.result (d.ensures s o) _ c.write_all.ensures)) (upper_tells x.key o u _ _ c.seen.ensures c.mark.ensures) (upper_sound x.key o u)
+    rw (c.stored_mark.ensures, stored_mark_is o) at (c.finish.ensures r ps (c.push_after.ensures s o r ps (upper_moves x.key o u d.result (d.ensures s o) _ c.write_all.ensures)) u.pairs_are (rw (c.stored_mark.ensures, stored_mark_is o) (upper_sound x.key o u)))

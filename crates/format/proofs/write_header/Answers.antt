@@ -1,9 +1,7 @@
 -- `format::write_header` meets its contract.
 -- Assumes nothing.
+use Rattle.std.proofs.Common.{ℕ, refl, ◌∙◌, ap, arith}
 use lib.ListN.{replicate, length-set}
-use native.Mathlib.Omega.{arith}
-use mathlib.Core.Path.{refl, ◌∙◌, ap}
-use Prim.Native.Nat.{ℕ}
 use Rattle.format.proofs.Formatted.{header_words}
 use Rattle.format.proofs.write_header.Goals as goal
 
@@ -16,4 +14,4 @@ bounds-s-7 c = simp length-set (omega arith)
 pub returns : goal.returns
 returns c =
     let x = c in
-    header_words _ x.args.count _ _ x.requires.1 (c.clear.ensures ∙ ap (λ (n : ℕ). replicate n 0) x.requires.0) c.next-first.ensures refl
+    header_words _ x.args.count _ _ x.requires.1 (c.fill.ensures.after (λ y e. e) ∙ ap (λ (n : ℕ). replicate n 0) x.requires.0) c.next-first.ensures refl
