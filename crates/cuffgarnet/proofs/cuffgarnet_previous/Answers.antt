@@ -1,0 +1,7 @@
+-- `cuffgarnet::cuffgarnet_previous` meets its contract.
+-- Assumes nothing.
+use Rattle.cuffgarnet.proofs.Told.{paired}
+use Rattle.cuffgarnet.proofs.cuffgarnet_previous.Goals as goal
+
+pub returns : goal.returns
+returns c = paired c.keep_previous.ensures c.from.ensures c.hand_pair.ensures.number c.hand_pair.ensures.key c.hand_pair.ensures.value
