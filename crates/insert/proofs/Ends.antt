@@ -9,7 +9,7 @@ use lib.ListN.{length, get_or, set, length-append}
 use lib.Seq.{set-get_or}
 use borrow.Author.Tests.{le-leb, lt-leb}
 use Rattle.model.specs.declared.Answer.{Answer}
-use Rattle.model.specs.declared.Answer.TheVariants.{Done, Value, Absent, NoRoom, BadArena, BadRange, BadOrder, BadSize, BadImage, StaleCursor, Spent, Older, NotRising}
+use Rattle.model.specs.declared.Answer.TheVariants.{Done, Value, NoRoom}
 use Rattle.model.specs.Layout.{most, largest_count, header, pairs_word, free_word, seen_word, mark_word, NodeVal, nth, Arena}
 use Rattle.model.specs.Tree.{Pair, Item, Tree, Ctx, Whole, plug, fill, flat_of}
 use Rattle.model.specs.Search.{Spot, at, gap, search}
@@ -41,6 +41,8 @@ use Rattle.standing.proofs.States.{laid_totals}
 use Rattle.shrinking.proofs.Pairs.{pair_ready, pair_is, replace_long, replace_step}
 use Rattle.standing.proofs.Heads.{plug_root, plug_top}
 use Rattle.header.specs.Headers.{raised}
+use Rattle.std.proofs.Common.{Option, None, Some, Ok, Bool, true, false, not, is_some}
+use Rattle.model.specs.Answer.{said_former}
 use Rattle.insert.specs.Inserts.{Placed, PutIn}
 
 -- ---- where the search ends
@@ -165,29 +167,24 @@ module _ {w : List ℕ} {s : State} (o : Holds w s) (k v : ℕ) (d : Handle) (y 
           held = h;
         })
 
--- ---- the answer that the code has seen
+-- ---- the former value that the code has seen
 
-module _ (k : ℕ) (s : State) (d : Reply) (w w' : List ℕ) where
-  pub if_refused : (r : Answer) → r ≡ NoRoom → PutIn k s d w w' r → (d ≡ record { answer = NoRoom; state = s }) × (w' ≡ w)
-  if_refused r e q = subst (PutIn k s d w w') e q
+-- so many pairs more
+abbrev pub more_of : Option ℕ → ℕ
+more_of None = 1
+more_of (Some v) = 0
 
-  pub if_new : (r : Answer) → r ≡ Done → PutIn k s d w w' r → Placed k s d w' r 1
-  if_new r e q = subst (λ (z : Answer). Placed k s d w' z 1) (sym e) (subst (PutIn k s d w w') e q)
+pub more_none : (f : Option ℕ) {b : Bool} → b ≡ true → is_some f ≡ not b → more_of f ≡ 1
+more_none None e i = refl
+more_none (Some v) e i = let z : ◌≡◌ {A = Bool} true false = rw e at i in cc
 
-  pub if_neither : (r : Answer) → (r ≡ NoRoom → ⊥) → (r ≡ Done → ⊥) → PutIn k s d w w' r → Placed k s d w' r 0
-  if_neither Done a b q = absurd (b refl)
-  if_neither (Value v) a b q = q
-  if_neither Absent a b q = absurd q
-  if_neither NoRoom a b q = absurd (a refl)
-  if_neither BadArena a b q = absurd q
-  if_neither BadRange a b q = absurd q
-  if_neither BadOrder a b q = absurd q
-  if_neither BadSize a b q = absurd q
-  if_neither BadImage a b q = absurd q
-  if_neither StaleCursor a b q = absurd q
-  if_neither NotRising a b q = absurd q
-  if_neither Spent a b q = absurd q
-  if_neither Older a b q = absurd q
+pub more_some : (f : Option ℕ) {b : Bool} → b ≡ false → is_some f ≡ not b → more_of f ≡ 0
+more_some (Some v) e i = refl
+more_some None e i = let z : ◌≡◌ {A = Bool} false true = rw e at i in cc
+
+pub placed : (k : ℕ) (s : State) (d : Reply) (w w' : List ℕ) (f : Option ℕ) → PutIn k s d w w' (Ok f) → Placed k s d w' (said_former (Ok f)) (more_of f)
+placed k s d w w' None q = q
+placed k s d w w' (Some v) q = q
 
 -- ---- counted and spent
 

@@ -1,6 +1,6 @@
 -- What the parts of an insertion ask for and leave.
 -- Assumes nothing.
-use Rattle.std.specs.Prelude.{None, ℕ, suc, ◌+◌, ◌≤◌, ◌≡◌, List, length}
+use Rattle.std.specs.Prelude.{Option, None, Some, Result, Ok, Err, ℕ, suc, ◌+◌, ◌≤◌, ◌≡◌, List, length}
 use Rattle.model.specs.Layout.{word_at, parent_word, place_word}
 use Rattle.model.specs.Tree.{Pair}
 use Rattle.model.specs.Nodes.{Grown}
@@ -8,7 +8,7 @@ use Rattle.model.specs.Insert.{needed}
 use Rattle.model.specs.Mark.{spend}
 use Rattle.model.specs.State.{State, Reply, list}
 use Rattle.model.specs.declared.Answer.{Answer}
-use Rattle.model.specs.declared.Answer.TheVariants.{Done, Value, Absent, NoRoom, BadArena, BadRange, BadOrder, BadSize, BadImage, StaleCursor, Spent, Older, NotRising}
+use Rattle.model.specs.declared.Answer.TheVariants.{Done, Value}
 use Rattle.node.specs.declared.NodeNo.{NodeNo}
 use Rattle.node.specs.declared.Place.{Place}
 use Rattle.node.specs.declared.LeftOrRight.{LeftOrRight}
@@ -19,26 +19,25 @@ use Rattle.search.specs.declared.Handle.{Handle}
 use Rattle.navigate.specs.Places.{EdgeAt}
 use Rattle.standing.specs.Heads.{Rest, rest_of, ClosedIn}
 use Rattle.growing.specs.Climbs.{Gap, Fitted, Risen, FittedRaw, RisenRaw, Climbing}
-use Rattle.insert.specs.declared.Inserted.{Inserted}
-use Rattle.insert.specs.declared.Inserted.TheVariants.{Fit, Split}
-use Rattle.insert.specs.declared.Target.{Target}
+use Rattle.model.specs.declared.Refused.{Refused}
+use Rattle.model.specs.Answer.{refused}
 
 -- the edge in a half
-abbrev pub target_of : LeftOrRight Place → NodeNo → NodeNo → Target
-target_of (Left i) l r = record { node = l; at = i }
-target_of (Right i) l r = record { node = r; at = i }
+abbrev pub target_of : LeftOrRight Place → NodeNo → NodeNo → NodeNo × Place
+target_of (Left i) l r = (l, i)
+target_of (Right i) l r = (r, i)
 
 -- what an insertion at a gap leaves
-abbrev pub Outcome : {w : List ℕ} {h node at child : ℕ} → Gap w h node at child → Pair → List ℕ → Inserted → Type 0
-Outcome s p w Fit = Fitted s p w
-Outcome s p w (Split r) = Risen s p w (pair_of r.kv) r.right.0
+abbrev pub Outcome : {w : List ℕ} {h node at child : ℕ} → Gap w h node at child → Pair → List ℕ → Option SplitResult → Type 0
+Outcome s p w None = Fitted s p w
+Outcome s p w (Some r) = Risen s p w (pair_of r.kv) r.right.0
 
 -- before the counts are set right
-abbrev pub RawOutcome : {w : List ℕ} {h node at child : ℕ} → Gap w h node at child → Pair → List ℕ → Inserted → Type 0
-RawOutcome s p w Fit = FittedRaw s p w
-RawOutcome s p w (Split r) = RisenRaw s p w (pair_of r.kv) r.right.0
+abbrev pub RawOutcome : {w : List ℕ} {h node at child : ℕ} → Gap w h node at child → Pair → List ℕ → Option SplitResult → Type 0
+RawOutcome s p w None = FittedRaw s p w
+RawOutcome s p w (Some r) = RisenRaw s p w (pair_of r.kv) r.right.0
 
-pub record Unsettled (w : List ℕ) (n : ℕ) (r : Inserted) : Type 0 where
+pub record Unsettled (w : List ℕ) (n : ℕ) (r : Option SplitResult) : Type 0 where
   pub was : List ℕ
   pub height : ℕ
   pub at : ℕ
@@ -64,10 +63,10 @@ pub record AtRoot (w : List ℕ) (r : SplitResult) : Type 0 where
   pub goal : Grown
   pub climb : ClimbIn w rest r goal
 
--- the climb to t is over, or it is to go up from a node so many levels below the root
-abbrev pub Upward : List ℕ → Rest → ℕ → ℕ → Inserted → Grown → Type 0
-Upward w g node levels Fit t = ClosedIn w g t
-Upward w g node levels (Split r) t = Climbing w g node levels (pair_of r.kv) r.right.0 t
+-- the climb to t is over, or it is to go up from a node
+abbrev pub Upward : List ℕ → Rest → ℕ → Option SplitResult → Grown → Type 0
+Upward w g node None t = ClosedIn w g t
+Upward w g node (Some r) t = (levels : ℕ) × Climbing w g node levels (pair_of r.kv) r.right.0 t
 
 -- a leaf edge, and nodes enough
 pub record Roomy (s : State) (d : Handle) : Type 0 where
@@ -84,18 +83,8 @@ pub record Placed (k : ℕ) (s : State) (d : Reply) (w : List ℕ) (r : Answer) 
   pub mark_is : d.state.mark ≡ spend k s.mark
   pub held : ClosedIn w (rest_of s) (record { whole = d.state.whole; free = d.state.free })
 
--- w is the words before, w' after; r the answer
-abbrev pub PutIn : ℕ → State → Reply → List ℕ → List ℕ → Answer → Type 0
-PutIn k s d w w' Done = Placed k s d w' Done 1
-PutIn k s d w w' (Value v) = Placed k s d w' (Value v) 0
-PutIn k s d w w' NoRoom = (d ≡ record { answer = NoRoom; state = s }) × (w' ≡ w)
-PutIn k s d w w' Absent = ⊥
-PutIn k s d w w' BadArena = ⊥
-PutIn k s d w w' BadRange = ⊥
-PutIn k s d w w' BadOrder = ⊥
-PutIn k s d w w' BadSize = ⊥
-PutIn k s d w w' BadImage = ⊥
-PutIn k s d w w' StaleCursor = ⊥
-PutIn k s d w w' NotRising = ⊥
-PutIn k s d w w' Spent = ⊥
-PutIn k s d w w' Older = ⊥
+-- w is the words before, w' after; the result, the former value or a refusal
+abbrev pub PutIn : ℕ → State → Reply → List ℕ → List ℕ → Result (Option ℕ) Refused → Type 0
+PutIn k s d w w' (Ok None) = Placed k s d w' Done 1
+PutIn k s d w w' (Ok (Some v)) = Placed k s d w' (Value v) 0
+PutIn k s d w w' (Err r) = (d ≡ record { answer = refused r; state = s }) × (w' ≡ w)

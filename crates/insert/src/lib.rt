@@ -8,6 +8,7 @@ ghost use Rattle.model.specs.Insert.{rise, needed};
 ghost use Rattle.model.specs.State as model;
 ghost use Rattle.model.specs.WellFormed.{WellFormed};
 ghost use Rattle.model.specs.Promise.{Holds, Does};
+ghost use Rattle.model.specs.Answer.{said_former};
 ghost use Rattle.node.specs.Reading.{pair_of};
 ghost use Rattle.navigate.specs.Places.{In, EdgeAt};
 ghost use Rattle.standing.specs.Heads.{Rest, rest_of, ClosedIn};
@@ -16,112 +17,82 @@ ghost use Rattle.insert.specs.Inserts.{target_of, RawOutcome, Outcome, Unsettled
 
 use internal::push_internal_level;
 use leaf::{SplitResult, replace_kv};
-use model::Answer;
+use model::Refused;
 use node::{CAPACITY, Kv, LeftOrRight, NodeNo, Place, ascend, len, splitpoint};
 use search::{Handle, SearchResult, search_tree};
 use totals::{set_right, settle};
 
-// What an insertion leaves for the level above: nothing, or a pair and the node right of it.
-#[derive(Clone, Copy)]
-pub enum Inserted {
-    Fit,
-    Split(SplitResult),
-}
-
-// An edge of a half.
-#[derive(Clone, Copy)]
-pub struct Target {
-    pub node: NodeNo,
-    pub at: Place,
-}
-
 // The edge where the new pair goes, in the left half or in the right one.
-fn insertion_edge(insertion: LeftOrRight<Place>, left: NodeNo, right: NodeNo) -> Target
+fn insertion_edge(insertion: LeftOrRight<Place>, left: NodeNo, right: NodeNo) -> (NodeNo, Place)
     ensures { result ≡ target_of insertion left right }
 {
     match insertion {
-        LeftOrRight::Left(at) => Target { node: left, at },
-        LeftOrRight::Right(at) => Target { node: right, at },
+        LeftOrRight::Left(at) => (left, at),
+        LeftOrRight::Right(at) => (right, at),
     }
 }
 
 // Puts a pair in at a leaf edge. A full leaf is split. Counts are left as they were.
-fn fit_leaf(a: &mut [u64], n: NodeNo, at: Place, kv: Kv) -> Inserted
+fn fit_leaf(a: &mut [u64], n: NodeNo, at: Place, kv: Kv) -> Option<SplitResult>
     requires { Gap a.old 0 n.0 at.0 0 }
     ensures { (s : Gap a.old 0 n.0 at.0 0) → RawOutcome s (pair_of kv) a.new result }
 {
     if len(a, n) < CAPACITY {
         leaf::insert_fit(a, n, at, kv);
-        return Inserted::Fit;
+        return None;
     }
     let point = splitpoint(at);
-    let middle = point.middle;
-    let insertion = point.insertion;
-    let split = leaf::split(a, n, middle);
-    let right = split.right;
-    let edge = insertion_edge(insertion, n, right);
-    let half = edge.node;
-    let i = edge.at;
+    let split = leaf::split(a, n, point.middle);
+    let (half, i) = insertion_edge(point.insertion, n, split.right);
     leaf::insert_fit(a, half, i, kv);
-    Inserted::Split(split)
+    Some(split)
 }
 
 // Puts a pair in at an edge of an internal node, and the node right of it. A full node is split. Counts are left as they were.
-fn fit_internal(a: &mut [u64], n: NodeNo, at: Place, kv: Kv, child: NodeNo) -> Inserted
+fn fit_internal(a: &mut [u64], n: NodeNo, at: Place, kv: Kv, child: NodeNo) -> Option<SplitResult>
     requires { InnerGap a.old n.0 at.0 child.0 }
     ensures { (h : ℕ) (s : Gap a.old (suc h) n.0 at.0 child.0) → RawOutcome s (pair_of kv) a.new result }
 {
     if len(a, n) < CAPACITY {
         internal::insert_fit(a, n, at, kv, child);
-        return Inserted::Fit;
+        return None;
     }
     let point = splitpoint(at);
-    let middle = point.middle;
-    let insertion = point.insertion;
-    let split = internal::split(a, n, middle);
-    let right = split.right;
-    let edge = insertion_edge(insertion, n, right);
-    let half = edge.node;
-    let i = edge.at;
+    let split = internal::split(a, n, point.middle);
+    let (half, i) = insertion_edge(point.insertion, n, split.right);
     internal::insert_fit(a, half, i, kv, child);
-    Inserted::Split(split)
+    Some(split)
 }
 
 // Sets right the counts that an insertion in a node has left: of its right half, which no edge leads to yet, and of the node and all above it.
-fn settle_inserted(a: &mut [u64], n: NodeNo, inserted: Inserted)
-    requires { Unsettled a.old n.0 inserted }
-    ensures { (w : List ℕ) (h at child : ℕ) (s : Gap w h n.0 at child) (p : Pair) → RawOutcome s p a.old inserted → Outcome s p a.new inserted }
+fn settle_inserted(a: &mut [u64], n: NodeNo, split: Option<SplitResult>)
+    requires { Unsettled a.old n.0 split }
+    ensures { (w : List ℕ) (h at child : ℕ) (s : Gap w h n.0 at child) (p : Pair) → RawOutcome s p a.old split → Outcome s p a.new split }
 {
-    match inserted {
-        Inserted::Fit => {
-            settle(a, n);
-        }
-        Inserted::Split(split) => {
-            let right = split.right;
-            set_right(a, right);
-            settle(a, n);
-        }
+    if let Some(half) = split {
+        set_right(a, half.right);
     }
+    settle(a, n);
 }
 
 // Puts a pair in at a leaf edge.
-fn insert_leaf(a: &mut [u64], n: NodeNo, at: Place, kv: Kv) -> Inserted
+fn insert_leaf(a: &mut [u64], n: NodeNo, at: Place, kv: Kv) -> Option<SplitResult>
     requires { Gap a.old 0 n.0 at.0 0 }
     ensures { (s : Gap a.old 0 n.0 at.0 0) → Outcome s (pair_of kv) a.new result }
 {
-    let inserted = fit_leaf(a, n, at, kv);
-    settle_inserted(a, n, inserted);
-    inserted
+    let split = fit_leaf(a, n, at, kv);
+    settle_inserted(a, n, split);
+    split
 }
 
 // Puts a pair in at an edge of an internal node, and the node right of it.
-fn insert_internal(a: &mut [u64], n: NodeNo, at: Place, kv: Kv, child: NodeNo) -> Inserted
+fn insert_internal(a: &mut [u64], n: NodeNo, at: Place, kv: Kv, child: NodeNo) -> Option<SplitResult>
     requires { InnerGap a.old n.0 at.0 child.0 }
     ensures { (h : ℕ) (s : Gap a.old (suc h) n.0 at.0 child.0) → Outcome s (pair_of kv) a.new result }
 {
-    let inserted = fit_internal(a, n, at, kv, child);
-    settle_inserted(a, n, inserted);
-    inserted
+    let split = fit_internal(a, n, at, kv, child);
+    settle_inserted(a, n, split);
+    split
 }
 
 // The root was split: a new root above it takes the pair.
@@ -129,10 +100,8 @@ fn split_root(a: &mut [u64], split: SplitResult)
     requires { AtRoot a.old split }
     ensures { (g : Rest) (t : Grown) → ClimbIn a.old g split t → ClosedIn a.new g t }
 {
-    let kv = split.kv;
-    let right = split.right;
     let top = push_internal_level(a);
-    internal::insert_fit(a, top, Place(0), kv, right);
+    internal::insert_fit(a, top, Place(0), split.kv, split.right);
     settle(a, top);
 }
 
@@ -141,23 +110,15 @@ pub fn insert_recursing(a: &mut [u64], edge: Handle, kv: Kv)
     requires { In a.old (λ s. Roomy s edge) }
     ensures { (s : model.State) → Holds a.old s → (y : Roomy s edge) → ClosedIn a.new (rest_of s) (rise y.edge.way tt (pair_of kv) tt s.free) }
 {
-    let mut levels = header::height(a);
     let mut node = edge.node;
-    let at = edge.at;
-    let mut inserted = insert_leaf(a, node, at, kv);
-    loop {
-        let Inserted::Split(split) = inserted else {
-            return;
-        };
+    let mut split = insert_leaf(a, node, edge.at, kv);
+    while let Some(up) = split {
         let Some((parent, idx)) = ascend(a, node) else {
-            split_root(a, split);
+            split_root(a, up);
             return;
         };
-        let up = split.kv;
-        let right = split.right;
-        levels -= 1;
         node = parent;
-        inserted = insert_internal(a, parent, idx, up, right);
+        split = insert_internal(a, node, idx, up.kv, up.right);
     }
 }
 
@@ -166,58 +127,50 @@ pub fn nodes_needed(a: &[u64], edge: Handle) -> usize
     requires { In a.now (λ s. EdgeAt s edge) }
     ensures { (s : model.State) → Holds a.now s → (y : EdgeAt s edge) → result ≡ needed y.way }
 {
-    let top = header::height(a);
     let mut node = edge.node;
     let mut count = 0;
-    loop {
-        if len(a, node) < CAPACITY {
-            return count;
-        }
+    while len(a, node) >= CAPACITY {
         let Some((parent, _)) = ascend(a, node) else {
             return count + 2;
         };
         node = parent;
         count += 1;
     }
+    count
 }
 
-// Puts a pair where it belongs. A present key's value is replaced only; an absent key lacks nodes, or comes in at its leaf edge.
-fn put_pair(a: &mut [u64], kv: Kv) -> Answer
+// Puts a pair where it belongs, and answers the former value. A present key's value is replaced only; an absent key lacks nodes, or
+// comes in at its leaf edge.
+fn put_pair(a: &mut [u64], kv: Kv) -> Result<Option<u64>, Refused>
     requires { WellFormed a.old }
     ensures { (s : model.State) → Holds a.old s → PutIn kv.0 s (model.put kv.0 kv.1 s) a.old a.new result }
 {
-    let found = search_tree(a, kv.0);
-    match found {
+    match search_tree(a, kv.0) {
         SearchResult::Found(place) => {
-            let node = place.node;
-            let at = place.at;
-            let old = replace_kv(a, node, at, kv);
-            return Answer::Value(old.1);
+            let old = replace_kv(a, place.node, place.at, kv);
+            Ok(Some(old.1))
         }
         SearchResult::GoDown(edge) => {
             let free = header::free_nodes(a);
             let need = nodes_needed(a, edge);
             if free < need {
-                return Answer::NoRoom;
+                return Err(Refused::NoRoom);
             }
             insert_recursing(a, edge, kv);
-            return Answer::Done;
+            Ok(None)
         }
     }
 }
 
-// Put behind a checked arena: an accepted one is counted if its key is new, and its key is spent.
-pub fn put(a: &mut [u64], key: u64, val: u64) -> Answer
+// Put behind a checked arena: an accepted one is counted if its key is new, and its key is spent. Answers the former value.
+pub fn put(a: &mut [u64], key: u64, val: u64) -> Result<Option<u64>, Refused>
     requires { WellFormed a.old }
-    ensures { (s : model.State) → Holds a.old s → Does (model.put key val s) a.new result }
+    ensures { (s : model.State) → Holds a.old s → Does (model.put key val s) a.new (said_former result) }
 {
-    let answer = put_pair(a, Kv(key, val));
-    if let Answer::NoRoom = answer {
-        return answer;
-    }
-    if let Answer::Done = answer {
+    let former = put_pair(a, Kv(key, val))?;
+    if former.is_none() {
         header::count_on(a);
     }
     header::raise_mark(a, key);
-    answer
+    Ok(former)
 }

@@ -1,11 +1,7 @@
 -- The descent of a start bound, node by node.
 -- Assumes nothing.
-use Prim.Native.Nat.{ℕ, zero, suc, ◌+◌, ◌-◌, ◌≤◌}
-use native.Mathlib.Numerals.{sub-one}
-use native.Mathlib.Omega.{arith}
-use mathlib.Core.Path.{◌≡◌, refl, sym, ap, ◌∙◌, subst}
-use mathlib.Core.List.{List}
-use lib.ListN.{length, length-map}
+use Rattle.std.proofs.Common.{ℕ, zero, suc, ◌+◌, ◌-◌, ◌≤◌, sub-one, arith, ◌≡◌, refl, sym, ap, ◌∙◌, subst, List, length}
+use lib.ListN.{length-map}
 use Rattle.model.specs.declared.SearchBound.{SearchBound}
 use Rattle.model.specs.Lists.{part}
 use Rattle.model.specs.Layout.{base, word_at, length_word, keys_word, edges_word}

@@ -1,14 +1,9 @@
 -- The pairs left of an edge, counted edge by edge; and a rank that passes the edges and pairs of a node.
 -- Assumes nothing.
-use Prim.Native.Nat.{ℕ, zero, suc, ◌+◌, ◌*◌, ◌-◌, ◌≤◌, ◌<◌}
+use Rattle.std.proofs.Common.{ℕ, zero, suc, ◌+◌, ◌*◌, ◌-◌, ◌≤◌, ◌<◌, sub-one, add-one, arith, ◌≡◌, refl, sym, ap, ap₂, ◌∙◌, subst, List, [], ◌∷◌, ◌++◌, lit<, length, length-append}
 use native.Mathlib.Decide.{dec_lt}
-use native.Mathlib.Numerals.{sub-one, add-one}
-use native.Mathlib.Omega.{arith}
-use mathlib.Core.Path.{◌≡◌, refl, sym, ap, ap₂, ◌∙◌, subst}
-use mathlib.Core.List.{List, [], ◌∷◌, ◌++◌}
 use mathlib.Core.Option.{some}
-use lib.Dec.{lit<}
-use lib.ListN.{length, length-append, length-map}
+use lib.ListN.{length-map}
 use Rattle.model.specs.declared.SearchBound.{SearchBound}
 use Rattle.model.specs.Lists.{part}
 use Rattle.model.specs.Layout.{most, largest_count, base, pairs_word, word_at, length_word, keys_word, edges_word, total_word}
@@ -36,10 +31,6 @@ module _ {A : Type 0} (f : A → ℕ) where
   sums zero e r = 0
   sums (suc i) e [] = f e
   sums (suc i) e (x ∷ r) = f e + sums i x.edge r
-
-  zero_open : (l : List (Item A)) (e : A) (r : List (Item A)) → (open_at zero l e r).hole ≡ e
-  zero_open l e [] = refl
-  zero_open l e (x ∷ r) = refl
 
   pub sums_more : (i : ℕ) (l : List (Item A)) (e : A) (r : List (Item A)) → i ≤ length r → sums (suc i) e r ≡ sums i e r + f (open_at i l e r).hole
   sums_more zero l e [] u = omega arith

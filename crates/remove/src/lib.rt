@@ -6,6 +6,7 @@ ghost use Rattle.model.specs.Layout.{most, word_at, length_word, keys_word};
 ghost use Rattle.model.specs.State as model;
 ghost use Rattle.model.specs.WellFormed.{WellFormed};
 ghost use Rattle.model.specs.Promise.{Holds, Does};
+ghost use Rattle.model.specs.Answer.{said_found};
 ghost use Rattle.node.specs.Reading.{Within, pair_of};
 ghost use Rattle.navigate.specs.Places.{In, KvAt};
 ghost use Rattle.remove.specs.Removals.{TakeCall, LeafKv, without, InnerKv, removed};
@@ -13,7 +14,6 @@ ghost use Rattle.remove.specs.Removals.{TakeCall, LeafKv, without, InnerKv, remo
 use fix::fix_node_and_affected_ancestors;
 use internal::pop_internal_level;
 use leaf::replace_kv;
-use model::Answer;
 use navigate::next_back_leaf_edge;
 use node::{Kv, NodeNo, Place, key, len};
 use search::{Handle, SearchResult, search_tree};
@@ -34,16 +34,10 @@ pub fn remove_leaf_kv(a: &mut [u64], kv: Handle) -> Kv
     requires { In a.old (λ s. LeafKv s kv) }
     ensures { (s : model.State) → Holds a.old s → (y : LeafKv s kv) → (pair_of result ≡ y.item.pair) × Holds a.new (without s y) }
 {
-    let node = kv.node;
-    let at = kv.at;
-    let old = take_pair(a, node, at);
+    let old = take_pair(a, kv.node, kv.at);
     header::count_off(a);
-    if fix_node_and_affected_ancestors(a, node) {
-        return old;
-    }
-    if header::height(a) > 0 {
+    if !fix_node_and_affected_ancestors(a, kv.node) && header::height(a) > 0 {
         pop_internal_level(a);
-        return old;
     }
     old
 }
@@ -54,30 +48,24 @@ pub fn remove_internal_kv(a: &mut [u64], kv: Handle) -> Kv
     requires { In a.old (λ s. InnerKv s kv) }
     ensures { (s : model.State) → Holds a.old s → (y : InnerKv s kv) → (pair_of result ≡ y.kv.item.pair) × Holds a.new (removed s y.kv) }
 {
-    let node = kv.node;
-    let at = kv.at;
-    let k = key(a, node, at);
+    let k = key(a, kv.node, kv.at);
     let edge = next_back_leaf_edge(a, kv);
-    let leaf = edge.node;
-    let i = edge.at;
     let left_kv = remove_leaf_kv(
         a,
         Handle {
-            node: leaf,
+            node: edge.node,
             height: 0,
-            at: Place(i.0 - 1),
+            at: Place(edge.at.0 - 1),
         },
     );
-    if has_key(a, node, at, k) {
-        return replace_kv(a, node, at, left_kv);
+    if has_key(a, kv.node, kv.at, k) {
+        return replace_kv(a, kv.node, kv.at, left_kv);
     }
     // The node was merged or lent pairs: the pair is found again.
     let SearchResult::Found(internal) = search_tree(a, k) else {
         return left_kv;
     };
-    let n = internal.node;
-    let p = internal.at;
-    replace_kv(a, n, p, left_kv)
+    replace_kv(a, internal.node, internal.at, left_kv)
 }
 
 // Whether a node has a key at a place.
@@ -85,13 +73,7 @@ fn has_key(a: &[u64], n: NodeNo, at: Place, k: u64) -> bool
     requires { Within a.now n.0 × (at.0 < most) }
     ensures { result ≡ true → (at.0 < word_at a.now n.0 length_word) × (word_at a.now n.0 (keys_word + at.0) ≡ k) }
 {
-    if len(a, n) <= at.0 {
-        return false;
-    }
-    if key(a, n, at) == k {
-        return true;
-    }
-    false
+    at.0 < len(a, n) && key(a, n, at) == k
 }
 
 // Takes a pair out of any node.
@@ -99,21 +81,21 @@ pub fn remove_kv_tracking(a: &mut [u64], kv: Handle) -> Kv
     requires { In a.old (λ s. KvAt s kv) }
     ensures { (s : model.State) → Holds a.old s → (y : KvAt s kv) → (pair_of result ≡ y.item.pair) × Holds a.new (removed s y) }
 {
-    let height = kv.height;
-    if height == 0 {
-        return remove_leaf_kv(a, kv);
+    if kv.height == 0 {
+        remove_leaf_kv(a, kv)
+    } else {
+        remove_internal_kv(a, kv)
     }
-    remove_internal_kv(a, kv)
 }
 
-// Takes the pair of a key out, if it is there.
-pub fn delete(a: &mut [u64], key: u64) -> Answer
+// Takes the pair of a key out, if it is there, and answers its value.
+pub fn delete(a: &mut [u64], key: u64) -> Option<u64>
     requires { WellFormed a.old }
-    ensures { (s : model.State) → Holds a.old s → Does (model.delete key s) a.new result }
+    ensures { (s : model.State) → Holds a.old s → Does (model.delete key s) a.new (said_found (Ok result)) }
 {
     let SearchResult::Found(kv) = search_tree(a, key) else {
-        return Answer::Absent;
+        return None;
     };
     let old = remove_kv_tracking(a, kv);
-    Answer::Value(old.1)
+    Some(old.1)
 }

@@ -6,7 +6,7 @@ use Rattle.insert.proofs.insert_internal.Goals as goal
 pub settle_inserted-requires : goal.settle_inserted-requires
 settle_inserted-requires c =
     let g = c.requires.gap in
-    record { was = _; height = _; at = _; child = _; gap = g; pair = pair_of c.args.kv; outcome = c.fit_internal-inserted.ensures c.requires.height g }
+    record { was = _; height = _; at = _; child = _; gap = g; pair = pair_of c.args.kv; outcome = c.fit_internal-split.ensures c.requires.height g }
 
 pub returns : goal.returns
-returns c = λ h s. c.settle_inserted.ensures _ _ _ _ s (pair_of c.args.kv) (c.fit_internal-inserted.ensures h s)
+returns c = λ h s. c.settle_inserted.ensures _ _ _ _ s (pair_of c.args.kv) (c.fit_internal-split.ensures h s)

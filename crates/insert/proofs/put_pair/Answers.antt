@@ -1,6 +1,6 @@
 -- `insert::put_pair` meets its contract.
 -- Assumes nothing.
-use mathlib.Core.Path.{refl, sym, ◌∙◌}
+use Rattle.std.proofs.Common.{refl}
 use Rattle.model.specs.State.{State}
 use Rattle.model.specs.Promise.{Holds}
 use Rattle.model.proofs.Forward.{forward}
@@ -11,11 +11,11 @@ use Rattle.insert.proofs.put_pair.Goals.{In-Found, In-GoDown}
 
 -- the pair that was found
 there : (c : In-Found) (s : State) → Holds c.args.a.now s → PairIn c.args.kv.0 s c.in-Found.place
-there c s o = pair_in o _ _ (sym c.in-Found.is ∙ c.search_tree-found.ensures s o)
+there c s o = pair_in o _ _ (c.in-Found.ensures s o)
 
 -- the leaf edge where it is not
 absent : (c : In-GoDown) (s : State) → Holds c.args.a.now s → GapIn c.args.kv.0 s c.in-GoDown.edge
-absent c s o = gap_in o _ _ (sym c.in-GoDown.is ∙ c.search_tree-found.ensures s o)
+absent c s o = gap_in o _ _ (c.in-GoDown.ensures s o)
 
 pub replace_kv-old-requires : goal.replace_kv-old-requires
 replace_kv-old-requires c =
@@ -49,11 +49,11 @@ insert_recursing-requires c =
     let y = absent (goal.at.insert_recursing-requires c).In-GoDown _ o in
     record { state = _; holds = o; there = record { edge = y.edge; room = enough o x.args.kv.0 x.args.kv.1 _ y _ _ c.free_nodes-free.ensures (c.nodes_needed-need.ensures _ o y.edge) c.if-free-need.false } }
 
-pub returns-in-GoDown : goal.returns-in-GoDown
-returns-in-GoDown c =
+pub returns-else-free-need : goal.returns-else-free-need
+returns-else-free-need c =
     λ s o.
     let x = c.args in
-    let y = absent (goal.at.returns-in-GoDown c).In-GoDown s o in
+    let y = absent (goal.at.returns-else-free-need c).In-GoDown s o in
     let n = c.nodes_needed-need.ensures s o y.edge in
     let l = c.if-free-need.false in
     let f = c.free_nodes-free.ensures in

@@ -13,9 +13,6 @@ use Rattle.remove.proofs.Inner.{deleted_absent, deleted_there}
 use Rattle.remove.proofs.delete.Goals as goal
 use Rattle.remove.proofs.delete.Goals.{In-Found}
 
-pub search_tree-requires : goal.search_tree-requires
-search_tree-requires c = c.requires
-
 pub returns-in_default : goal.returns-in_default
 returns-in_default c =
     λ s o.

@@ -23,8 +23,8 @@ key-k-requires c = let p = c.requires in kv_within _ p.there.kv p.holds
 pub next_back_leaf_edge-edge-requires : goal.next_back_leaf_edge-edge-requires
 next_back_leaf_edge-edge-requires c = let p = c.requires in record { state = p.state; holds = p.holds; there = p.there.kv }
 
-pub overflow_sub-i : goal.overflow_sub-i
-overflow_sub-i c = let p = c.requires in omega (arith, edge_some p.holds p.there _ (c.next_back_leaf_edge-edge.ensures p.state p.holds p.there.kv))
+pub overflow_sub-edge : goal.overflow_sub-edge
+overflow_sub-edge c = let p = c.requires in omega (arith, edge_some p.holds p.there _ (c.next_back_leaf_edge-edge.ensures p.state p.holds p.there.kv))
 
 pub remove_leaf_kv-left_kv-requires : goal.remove_leaf_kv-left_kv-requires
 remove_leaf_kv-left_kv-requires c =
