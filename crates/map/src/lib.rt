@@ -22,9 +22,7 @@ pub fn look(a: &[u64], key: u64) -> Option<u64>
     let SearchResult::Found(kv) = search_tree(a, key) else {
         return None;
     };
-    let node = kv.node;
-    let at = kv.at;
-    Some(val(a, node, at))
+    Some(val(a, kv.node, kv.at))
 }
 
 // The value of a key.
