@@ -30,6 +30,8 @@ use Rattle.model.proofs.Unique.{in_state}
 use Rattle.loading.proofs.Runs.{pairs_back, words_even}
 use Rattle.loading.proofs.Merging.{all_merge, rising_merge, length_merge}
 use Rattle.loading.proofs.Least.{nodes_more}
+use Rattle.std.proofs.Common.{Bool, false}
+use Rattle.inspect.specs.Tests.{Decides}
 use Rattle.restore.proofs.Restored.{seen_higher, mark_higher}
 use Rattle.listing.proofs.Sofar.{words_length}
 use Rattle.appending.specs.Runs.{Loads}
@@ -104,6 +106,10 @@ module _ {w v : List ℕ} {s t : State} (h : Holds w s) (g : Holds v t) where
   -- nodes for the pairs of both are enough
   pub enough : (pairs : ℕ) → pairs ≡ header w pairs_word + header v pairs_word → nodes_for pairs ≤ header w count_word → nodes_for (length (joined_run s t)) ≤ s.size
   enough pairs e l = omega (arith, nodes_more (length (joined_run s t)) pairs (omega (arith, length_merge (list s) (list t), pairs_are, e)), count_of h, l)
+
+-- what a test that fails decides
+pub no_less : {b : Bool} {P : Type 0} → b ≡ false → (P → ⊥) → Decides b P
+no_less {b} {P} q n = subst (λ (v : Bool). Decides v P) (sym q) n
 
 -- ---- the promise
 

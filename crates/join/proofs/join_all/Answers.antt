@@ -1,6 +1,6 @@
-use Prim.Native.Nat.{◌*◌, ◌-◌, ◌≤◌, ◌<◌}
+use Prim.Native.Nat.{◌*◌, ◌-◌, ◌≤◌, ◌<◌, max}
 use native.Mathlib.Omega.{arith}
-use mathlib.Core.Path.{◌≡◌, refl, sym, ap, ◌∙◌, subst}
+use mathlib.Core.Path.{◌≡◌, refl, sym, ap, ap₂, ◌∙◌, subst}
 use mathlib.Core.List.{List, []}
 use lib.ListN.{length, take}
 use Rattle.model.specs.Lists.{All}
@@ -61,7 +61,7 @@ load_anew-requires-2 c = let x = c in record { count = _; anew = anew_empty (for
 pub returns : goal.returns
 returns c = λ s t h g.
     let m = (goal.at.returns c).After-merge_into-words in (
-      c.load_anew.ensures s.size (higher s.mark t.mark) (anew m h g) (covers m h g) (c.larger-most_seen.ensures ∙ higher_seen h g) (c.larger-most.ensures ∙ higher_mark h g) ∙ ap (λ (ps : List Pair). words_of (loaded_with (higher s.mark t.mark) s.size ps)) (pairs_are m h g),
-      c.load_anew-2.ensures t.size t.mark (anew_empty g [] refl) tt (seen_is g) (mark_is g) ∙ ap words_of (emptied_is t),
+      c.load_anew.ensures s.size (higher s.mark t.mark) (anew m h g) (covers m h g) (c.max-most_seen.ensures ∙ ap₂ max c.seen.ensures c.seen-seen.ensures ∙ higher_seen h g) (c.max-most.ensures ∙ ap₂ max c.mark.ensures c.mark-mark.ensures ∙ higher_mark h g) ∙ ap (λ (ps : List Pair). words_of (loaded_with (higher s.mark t.mark) s.size ps)) (pairs_are m h g),
+      c.load_anew-2.ensures t.size t.mark (anew_empty g [] refl) tt (c.seen-seen.ensures ∙ seen_is g) (c.mark-mark.ensures ∙ mark_is g) ∙ ap words_of (emptied_is t),
       (m.merge_into-words.ensures s t h g).0,
     )
