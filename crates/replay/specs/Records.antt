@@ -66,7 +66,7 @@ Says w what.Format = w.0 ≡ format_code
 Says w what.Tell = w.0 ≡ tell_code
 Says w (what.Listing q) = (w.0 / 16 ≡ listing_code) × (q ≡ read_range w.0 w.1 w.2)
 Says w (what.Fork q) = (w.0 / 16 ≡ fork_code) × (q ≡ read_range w.0 w.1 w.2)
-Says w (what.Order code k v) = (w ≡ (code, k, v)) × (code ≡ format_code → ⊥) × (code ≡ tell_code → ⊥) × (code / 16 ≡ listing_code → ⊥) × (code / 16 ≡ fork_code → ⊥)
+Says w (what.Order code k v) = (w ≡ (code, k, v)) × (w.0 ≡ format_code → ⊥) × (w.0 ≡ tell_code → ⊥) × (w.0 / 16 ≡ listing_code → ⊥) × (w.0 / 16 ≡ fork_code → ⊥)
 
 -- a record's three words, the mix before it and r after it, the words w before and w' after: they are mixed in where they may have changed
 pub data Replays (code k v mix : ℕ) (w w' : List ℕ) (r : ℕ) : Type 0 where
