@@ -53,9 +53,6 @@ insert-split-requires c =
     let x = c.args in
     record { height = 0; gap = (begin q.holds x.edge q.there.edge q.there.room (pair_of x.kv)).gap }
 
-pub loop-split-init : goal.loop-split-init
-loop-split-init c = (refl, λ g t u. u)
-
 pub ascend-requires : goal.ascend-requires
 ascend-requires c = climb_within (rising (goal.at.ascend-requires c).In-Some _ _ (known (goal.at.ascend-requires c).At-loop-split)).1
 
