@@ -1,14 +1,6 @@
 -- Nodes as tasks: a node is its own words and then its edges, a level lower.
 -- Assumes nothing.
-use Rattle.std.proofs.Common.{Option, None, Some}
-use Prim.Native.Nat.{ℕ, zero, suc, ◌+◌, ◌-◌, ◌≤◌, ◌<◌}
-use native.Mathlib.Numerals.{sub-one}
-use native.Mathlib.Omega.{arith}
-use native.Mathlib.Nat.{eq-or-lt_of_le}
-use mathlib.Core.Path.{◌≡◌, refl, sym, ap, ◌∙◌}
-use mathlib.Core.Logic.{⊎_elim}
-use mathlib.Core.List.{List, [], append-nil}
-use lib.ListN.{length, length-append}
+use Rattle.std.proofs.Common.{Option, None, Some, ℕ, zero, suc, ◌+◌, ◌-◌, ◌≤◌, ◌<◌, sub-one, arith, eq-or-lt_of_le, ◌≡◌, refl, sym, ap, ◌∙◌, ⊎_elim, List, [], append-nil, length, length-append}
 use Rattle.model.specs.Lists.{join_to, mix_to}
 use Rattle.model.specs.declared.Layout.{Layout}
 use Rattle.model.specs.Layout.{least, total_word, word_at_by}

@@ -1,11 +1,6 @@
 -- A pair's place: the words that hold the pair, and the place where a search or a step ends.
 -- Assumes nothing.
-use Prim.Native.Nat.{ℕ, suc, ◌+◌, ◌≤◌, ◌<◌}
-use Rattle.std.proofs.Common.{Some}
-use native.Mathlib.Omega.{arith}
-use mathlib.Core.Path.{◌≡◌, refl, sym, ap, ◌∙◌, subst}
-use mathlib.Core.List.{List, ◌∷◌, map}
-use lib.ListN.{length, get_or}
+use Rattle.std.proofs.Common.{Some, ℕ, suc, ◌+◌, ◌≤◌, ◌<◌, arith, ◌≡◌, refl, sym, ap, ◌∙◌, subst, List, ◌∷◌, map, length, get_or}
 use Rattle.model.specs.Layout.{most, base, node_size, word_at, keys_word, values_word, key_of, val_of}
 use Rattle.model.specs.Tree.{Pair, Item, Tree, Ctx, fill}
 use Rattle.model.specs.Search.{Spot, at, gap, search}

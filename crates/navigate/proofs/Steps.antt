@@ -1,13 +1,6 @@
 -- A climb by parent words and a dive by edges, each one law for both directions.
 -- Assumes nothing.
-use Prim.Native.Nat.{ℕ, zero, suc, ◌+◌, ◌-◌, pred, ◌≤◌, ◌<◌}
-use native.Mathlib.Numerals.{add-one, sub-one}
-use native.Mathlib.Omega.{arith}
-use mathlib.Core.Path.{◌≡◌, refl, sym, ap, ◌∙◌, subst}
-use mathlib.Core.Bool.{Bool}
-use mathlib.Core.List.{List, [], ◌∷◌}
-use lib.ListN.{length}
-use borrow.Author.Tests.{ne_eqb}
+use Rattle.std.proofs.Common.{Some, None, ℕ, zero, suc, ◌+◌, ◌-◌, pred, ◌≤◌, ◌<◌, add-one, sub-one, arith, ◌≡◌, refl, sym, ap, ◌∙◌, subst, Bool, List, [], ◌∷◌, length, ne_eqb}
 use Rattle.std.specs.Prelude.{Some, None}
 use Rattle.model.specs.Layout.{none, most, base, node_size, header, height_word, word_at, length_word, parent_word, place_word, edges_word}
 use Rattle.model.specs.Tree.{Item, Tree, Frame, Ctx, top, under, Whole, plug, fill}
@@ -28,7 +21,6 @@ use Rattle.node.specs.Reading.{ascent_of}
 use Rattle.search.specs.declared.Handle.{Handle}
 use Rattle.search.specs.Results.{handle, leaf_edge}
 use Rattle.search.proofs.Descents.{leaf_at}
-use Rattle.std.proofs.Common.{Some, None}
 use Rattle.navigate.specs.Places.{EdgeAt, KvAt, stepped}
 use Rattle.navigate.proofs.Pairs.{node, kv_at_node, kv_length}
 

@@ -1,13 +1,6 @@
 -- The descents' ends as the promises have them.
 -- Assumes nothing.
-use Prim.Native.Nat.{ℕ, zero, ◌-◌, ◌≤◌}
-use native.Mathlib.Omega.{arith}
-use mathlib.Core.Path.{◌≡◌, refl, sym, ap, ap₂, ◌∙◌, subst}
-use mathlib.Core.Bool.{false}
-use mathlib.Core.Logic.{inr}
-use mathlib.Core.List.{List}
-use lib.Dec.{lit<}
-use lib.ListN.{length}
+use Rattle.std.proofs.Common.{ℕ, zero, ◌-◌, ◌≤◌, arith, ◌≡◌, refl, sym, ap, ap₂, ◌∙◌, subst, false, inr, List, lit<, length}
 use Rattle.model.specs.declared.Answer.TheVariants.{Done, Value, Absent}
 use Rattle.model.specs.declared.Counted.{Counted}
 use Rattle.model.specs.declared.Picked.{Picked}

@@ -1,11 +1,7 @@
 -- A descent that has come to a node: what the node's keys are, and how the search ends there or goes on.
 -- Assumes nothing.
-use Prim.Native.Nat.{ℕ, zero, suc, ◌+◌, ◌-◌, ◌≤◌, ◌<◌}
-use native.Mathlib.Numerals.{sub-one}
-use native.Mathlib.Omega.{arith}
-use mathlib.Core.Path.{◌≡◌, refl, sym, ap, ◌∙◌, subst}
-use mathlib.Core.List.{List, [], ◌∷◌}
-use lib.ListN.{length, length-map}
+use Rattle.std.proofs.Common.{Ok, Err, ℕ, zero, suc, ◌+◌, ◌-◌, ◌≤◌, ◌<◌, sub-one, arith, ◌≡◌, refl, sym, ap, ◌∙◌, subst, List, [], ◌∷◌, length}
+use lib.ListN.{length-map}
 use Rattle.model.specs.Lists.{part, Rises}
 use Rattle.model.specs.Layout.{most, base, node_size, word_at, length_word, keys_word, edges_word}
 use Rattle.model.specs.Tree.{Ctx, top, under, Whole, flat_of}
@@ -20,7 +16,6 @@ use Rattle.model.proofs.Sizes.{Len, RootLen, FullWhole, of_full, fits_node, unpl
 use Rattle.model.proofs.Forks.{Ascends, node_ascends, down_at, open_length, seek_kv, seek_edge, lower_inside, low_at, high_at, bounds_at, fork_here, fork_below}
 use Rattle.model.proofs.Standing.{At, stands, below_at, length_at, short_at, keys_at}
 use Rattle.search.specs.declared.SearchResult.TheVariants.{Found, GoDown}
-use Rattle.std.proofs.Common.{Ok, Err}
 use Rattle.node.specs.declared.Place.{Place}
 use Rattle.search.specs.Results.{handle, leaf_edge, spotted, edged, forked}
 use Rattle.search.proofs.Indexes.{index_from}

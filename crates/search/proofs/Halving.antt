@@ -1,11 +1,6 @@
 -- The scan of a node's keys by halving: what is known of the keys that it has left, and what it finds.
 -- Assumes nothing.
-use Prim.Native.Nat.{ℕ, zero, suc, ◌+◌, ◌-◌, ◌/◌, ◌≤◌, ◌<◌}
-use native.Mathlib.Nat.{not-suc-le-zero, le_of_suc-le-suc, div-add-mod', mod-lt}
-use native.Mathlib.Omega.{arith}
-use mathlib.Core.Path.{◌≡◌, refl, sym, ap, ◌∙◌, subst}
-use mathlib.Core.List.{List, [], ◌∷◌}
-use lib.ListN.{length, get_or}
+use Rattle.std.proofs.Common.{ℕ, zero, suc, ◌+◌, ◌-◌, ◌≤◌, ◌<◌, not-suc-le-zero, le_of_suc-le-suc, arith, ◌≡◌, refl, sym, ap, ◌∙◌, subst, List, [], ◌∷◌, length, get_or}
 use Rattle.model.specs.Lists.{All, Rises}
 use Rattle.model.specs.Range.{kv, edge}
 use Rattle.search.specs.Results.{Among}
@@ -34,10 +29,6 @@ index_skip key ks s (suc c) l b =
     ∙ ap (index_from key ks) (let z : s + c + 1 ≡ s + suc c = omega arith in z))
 
 -- ---- the halving
-
--- half of a number, rounded down
-pub half : (n : ℕ) → (n / 2 + n / 2 ≤ n) × (n ≤ n / 2 + n / 2 + 1)
-half n = let l = mod-lt n (let z : 0 < 2 = omega arith in z) in (omega (arith, div-add-mod' n 2), omega (arith, div-add-mod' n 2))
 
 -- k: any key, as long as none was met that is not smaller than the key sought; else one that is not, at the end e of what is left, or the last of that
 pub data Upper (key : ℕ) (ks : List ℕ) (s e k : ℕ) : Type 0 where

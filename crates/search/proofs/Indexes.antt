@@ -1,20 +1,13 @@
 -- The scan of a node's keys, key by key: what is left of it finds what the whole of it finds.
 -- Assumes nothing.
-use Prim.Native.Nat.{ℕ, ◌+◌, ◌≤◌, ◌<◌}
-use native.Mathlib.Numerals.{add-one}
-use native.Mathlib.Omega.{arith}
-use mathlib.Core.Path.{◌≡◌, sym, ap, ◌∙◌}
-use mathlib.Core.List.{List}
-use lib.ListN.{length, get_or, drop, drop_of_length-le}
-use lib.Seq.{drop-cons}
-use borrow.Author.Tests.{le-leb, lt-leb, eq-eqb, ne_eqb}
-use Rattle.model.specs.declared.SearchBound.{SearchBound}
-use Rattle.model.specs.Range.{IndexResult, kv, edge, key_index, BoundEdge, at_key}
+use Rattle.std.proofs.Common.{ℕ, ◌+◌, ◌≤◌, ◌<◌, add-one, arith, ◌≡◌, sym, ap, ◌∙◌, List, length, get_or, drop, drop_of_length-le, drop-cons, le-leb, eq-eqb, ne_eqb}
+use borrow.Author.Tests.{lt-leb}
+use Rattle.model.specs.Range.{IndexResult, kv, edge, key_index}
 use Rattle.node.specs.declared.Place.{Place}
 use Rattle.model.proofs.Forks.{IndexIs, hit, miss, index_is, equal_inside}
 use Rattle.search.specs.declared.IndexResult as found
 use Rattle.search.specs.declared.IndexResult.TheVariants.{Kv, Edge}
-use Rattle.search.specs.Results.{indexed, edged}
+use Rattle.search.specs.Results.{indexed}
 
 -- what is left of the scan at the place i
 abbrev pub index_from : ℕ → List ℕ → ℕ → IndexResult
@@ -43,7 +36,7 @@ pub is_edge : (z : IndexResult) (p : Place) → Edge p ≡ indexed z → z ≡ e
 is_edge (kv i) p e = let y : ◌≡◌ {A = ℕ} 0 1 = cc in absurd (omega arith)
 is_edge (edge i) p e = let y : p.0 ≡ i = cc in ap edge (sym y)
 
--- ---- an edge for a bound, from where its key stands
+-- ---- a key that is there, is inside
 
 module _ (k s : ℕ) (ks : List ℕ) (r : found.IndexResult) (is : r ≡ indexed (key_index k s ks)) (p : Place) where
   pub kv_inside : r ≡ Kv p → p.0 < s + length ks
@@ -52,18 +45,3 @@ module _ (k s : ℕ) (ks : List ℕ) (r : found.IndexResult) (is : r ≡ indexed
       go : (z : IndexResult) → IndexIs k s ks z → indexed z ≡ Kv p → p.0 < s + length ks
       go z (hit j t u) q = let y : s + j ≡ p.0 = cc in omega (arith, equal_inside k j ks u)
       go z (miss j t u) q = let y : ◌≡◌ {A = ℕ} 0 1 = cc in absurd (omega arith)
-
-  module _ (f : ℕ → BoundEdge) (b : SearchBound) where
-    pub at_kv : r ≡ Kv p → edged (f p.0) ≡ edged (at_key f b (key_index k s ks))
-    at_kv e = go (key_index k s ks) (sym is ∙ e)
-      where
-        go : (z : IndexResult) → indexed z ≡ Kv p → edged (f p.0) ≡ edged (at_key f b z)
-        go (kv i) q = let y : p.0 ≡ i = cc in ap (λ (j : ℕ). edged (f j)) y
-        go (edge i) q = let y : ◌≡◌ {A = ℕ} 0 1 = cc in absurd (omega arith)
-
-    pub at_edge : r ≡ Edge p → edged (record { at = p.0; bound = b }) ≡ edged (at_key f b (key_index k s ks))
-    at_edge e = go (key_index k s ks) (sym is ∙ e)
-      where
-        go : (z : IndexResult) → indexed z ≡ Edge p → edged (record { at = p.0; bound = b }) ≡ edged (at_key f b z)
-        go (kv i) q = let y : ◌≡◌ {A = ℕ} 0 1 = cc in absurd (omega arith)
-        go (edge i) q = let y : p.0 ≡ i = cc in ap (λ (j : ℕ). edged (record { at = j; bound = b })) y

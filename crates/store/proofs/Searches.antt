@@ -6,13 +6,15 @@ use mathlib.Core.Path.{◌≡◌, refl, sym, ap, ◌∙◌}
 use mathlib.Core.Logic.{⊎_elim}
 use mathlib.Core.List.{List, [], ◌∷◌}
 use lib.ListN.{length}
-use borrow.Author.Tests.{lt-ltb, le-ltb}
+use borrow.Author.Tests.{lt-ltb, le-ltb, eq-eqb, ne_eqb}
+use Rattle.std.specs.Prelude.{Option, Some, None}
+use Rattle.node.specs.declared.NodeNo.{NodeNo}
 use Rattle.model.specs.Lists.{All}
 use Rattle.model.specs.Layout.{none, NodeVal, nth}
 use Rattle.model.specs.Words.{first_or, chain_blocks}
 use Rattle.model.proofs.Held.{Written}
 use Rattle.model.proofs.Lists.{below_or, same_or, times_has}
-use Rattle.store.specs.Links.{ReturnReady, last_below}
+use Rattle.store.specs.Links.{node_if, ReturnReady, last_below}
 use Rattle.store.proofs.Returns.{last_is}
 
 -- free nodes have the state of one
@@ -96,3 +98,26 @@ module _ {h : List ℕ} {ns : List NodeVal} (free : List ℕ) (n : ℕ) (r : Ret
             goes = k.goes;
             between = λ q a b. ⊎_elim (λ (x : q ≡ d). rw x z) (λ (x : q ≡ d → ⊥). s.between q (omega arith) b) (same_or q d);
           }
+
+    -- no node downwards is left: no more of the chain is below n
+    pub search_over : down ≡ 0 → before ≡ last_below n none free
+    search_over z = search_ends (⊎_elim (λ (o : next < n). absurd (omega (arith, (search_step o).below))) (λ u. u) (below_or next n))
+
+-- ---- the node that a word names
+
+pub node_none : (p : ℕ) → p ≡ none → node_if p ≡ None
+node_none p e = rw (eq-eqb p none e, node_if)
+
+pub node_some : (p : ℕ) → (p ≡ none → ⊥) → node_if p ≡ Some (record { 0 = p })
+node_some p d = rw (ne_eqb p none d, node_if)
+
+pub names_none : (p : ℕ) → node_if p ≡ None → p ≡ none
+names_none p e = ⊎_elim (λ u. u) (λ (d : p ≡ none → ⊥). let z = node_some p d in cc) (same_or p none)
+
+pub names_some : (p : ℕ) (q : NodeNo) → node_if p ≡ Some q → (q.0 ≡ p) × (p ≡ none → ⊥)
+names_some p q e =
+    ⊎_elim (λ (u : p ≡ none). let z = node_none p u in cc) (λ (d : p ≡ none → ⊥). (ap number (sym e ∙ node_some p d), d)) (same_or p none)
+  where
+    number : Option NodeNo → ℕ
+    number None = 0
+    number (Some x) = x.0

@@ -1,11 +1,12 @@
 -- Changes of the list of nodes and of the header: a node taken, a node returned, children linked to their parent.
 -- Assumes nothing.
-use Rattle.std.specs.Prelude.{ℕ, suc, ◌≤◌, ◌<◌, ◌≡◌, cond, List, [], ◌∷◌, ltb, length, set, drop}
+use Rattle.std.specs.Prelude.{Option, Some, None, true, false, eqb, ℕ, suc, ◌≤◌, ◌<◌, ◌≡◌, cond, List, [], ◌∷◌, ltb, length, set, drop}
 use Rattle.model.specs.Lists.{All, Rises, times}
 use Rattle.model.specs.Tree.{Pair}
 use Rattle.model.specs.Layout.{none, largest_count, header, first_free_word, free_word, NodeVal, nth}
 use Rattle.model.specs.Nodes.{taken, untaken, returned}
 use Rattle.model.specs.Words.{free_val, first_or, chain_blocks}
+use Rattle.node.specs.declared.NodeNo.{NodeNo}
 use Rattle.model.specs.Words.{Written}
 
 -- ---- a node's body and its link: what it holds, and where it hangs
@@ -72,6 +73,14 @@ pub record TakeReady (h : List ℕ) (ns : List NodeVal) (free : List ℕ) : Type
 
 abbrev pub Takeable : List ℕ → List NodeVal → Type 0
 Takeable h ns = (free : List ℕ) × TakeReady h ns free
+
+-- the node that a word names, if it names one
+abbrev pub node_if : ℕ → Option NodeNo
+node_if p =
+    elim (eqb p none) [
+      | true ↦ None
+      | false ↦ Some (record { 0 = p })
+    ]
 
 -- the last of a rising list below n, p if none is; and the first that is not, or NONE
 abbrev pub last_below : ℕ → ℕ → List ℕ → ℕ

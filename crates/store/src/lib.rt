@@ -6,7 +6,7 @@ ghost use Rattle.model.specs.Layout.{none, NodeVal, nth, Arena};
 ghost use Rattle.model.specs.Nodes.{taken};
 ghost use Rattle.model.specs.Words.{free_val};
 ghost use Rattle.node.specs.Reading.{Within, Has};
-ghost use Rattle.store.specs.Links.{TakeReady, Takeable, ReturnReady, Returnable, LinkReady, last_below, take_head, take_node, return_head, return_node, link, relink_from};
+ghost use Rattle.store.specs.Links.{node_if, TakeReady, Takeable, ReturnReady, Returnable, LinkReady, last_below, take_head, take_node, return_head, return_node, link, relink_from};
 
 use node::{
     FREE, NONE, NodeNo, PARENT, PARENT_IDX, Place, STATE, TOTAL, edge, node_base, parent, state,
@@ -27,22 +27,24 @@ pub fn take_node(a: &mut [u64], state: u64) -> NodeNo
     n
 }
 
-// The last free node before n, or NONE. It is sought in turns along the chain and downwards from n, so that it costs no more than
+// The last free node before n. It is sought in turns along the chain and downwards from n, so that it costs no more than
 // twice the nearer way.
-fn free_before(a: &[u64], n: NodeNo) -> u64
+fn free_before(a: &[u64], n: NodeNo) -> Option<NodeNo>
     requires { Has a.now (λ h ns. Returnable h ns n.0) }
-    ensures { (h : List ℕ) (ns : List NodeVal) (free : List ℕ) → ReturnReady h ns free n.0 → Arena a.now h ns → result ≡ last_below n.0 none free }
+    ensures { (h : List ℕ) (ns : List NodeVal) (free : List ℕ) → ReturnReady h ns free n.0 → Arena a.now h ns → result ≡ node_if (last_below n.0 none free) }
 {
-    let mut before = NONE;
+    let mut before = None;
     let mut next = header::first_free(a);
-    let mut down = n.0;
-    while next < n.0 as u64 {
-        down -= 1;
-        if state(a, NodeNo(down)) == FREE {
-            return down as u64;
+    for down in (0..n.0).rev() {
+        if next >= n.0 as u64 {
+            return before;
         }
-        before = next;
-        next = parent(a, NodeNo(next as usize));
+        if state(a, NodeNo(down)) == FREE {
+            return Some(NodeNo(down));
+        }
+        let low = NodeNo(next as usize);
+        before = Some(low);
+        next = parent(a, low);
     }
     before
 }
@@ -67,12 +69,11 @@ pub fn return_node(a: &mut [u64], n: NodeNo)
     let first = header::first_free(a);
     let left = header::free_nodes(a) + 1;
     let before = free_before(a, n);
-    if before == NONE {
+    let Some(low) = before else {
         set_free(a, n, first);
         header::set_free_nodes(a, n.0 as u64, left);
         return;
-    }
-    let low = NodeNo(before as usize);
+    };
     let next = parent(a, low);
     set_free(a, n, next);
     set_free(a, low, n.0 as u64);

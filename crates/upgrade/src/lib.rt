@@ -6,12 +6,13 @@ ghost use Rattle.model.specs.declared.Layout.TheVariants.{Format1};
 ghost use Rattle.model.specs.Layout.{Sized, SizedBy, header_size, node_size, format_number, format_word, total_word};
 ghost use Rattle.model.specs.Public.{Promised};
 ghost use Rattle.model.specs.Public as promise;
+ghost use Rattle.model.specs.Answer.{said_done};
 ghost use Rattle.upgrade.specs.Copies.{copies};
 
 use checker::well_formed_by;
 use counting::count_node;
 use header::FORMAT;
-use model::{Answer, Layout};
+use model::{Layout, Refused};
 use node::{HEADER, NodeNo, TOTAL, WORDS, node_base};
 use slices::copy_from_slice;
 
@@ -29,8 +30,7 @@ fn copy_node(to: &mut [u64], from: &[u64])
     requires { (length from.now ≡ total_word) × (length to.old ≡ node_size) }
     ensures { to.new ≡ from.now ++ (0 ∷ []) }
 {
-    let e = TOTAL;
-    copy_from_slice(&mut to[0..e], from);
+    copy_from_slice(&mut to[..TOTAL], from);
     to[TOTAL] = 0;
 }
 
@@ -39,14 +39,10 @@ fn copy_nodes(to: &mut [u64], from: &[u64], count: usize)
     requires { Sized count (length to.old) × SizedBy Format1 count (length from.now) }
     ensures { to.new ≡ take header_size to.old ++ copies from.now 0 count }
 {
-    let mut i: usize = 0;
-    while i < count {
+    for i in 0..count {
         let b = node_base(NodeNo(i));
-        let e = b + WORDS;
         let c = b - i;
-        let d = c + TOTAL;
-        copy_node(&mut to[b..e], &from[c..d]);
-        i += 1;
+        copy_node(&mut to[b..b + WORDS], &from[c..c + TOTAL]);
     }
 }
 
@@ -55,24 +51,22 @@ fn copy_all(to: &mut [u64], from: &[u64], count: usize)
     requires { Sized count (length to.old) × SizedBy Format1 count (length from.now) }
     ensures { to.new ≡ set (take header_size from.now) format_word format_number ++ copies from.now 0 count }
 {
-    let b = HEADER;
-    copy_header(&mut to[0..b], &from[0..b]);
+    copy_header(&mut to[..HEADER], &from[..HEADER]);
     copy_nodes(to, from, count);
 }
 
 // The upgrade. The source is only read; the target's words do not matter, only how many there are.
-pub fn upgrade(source: &[u64], target: &mut [u64]) -> Answer
-    ensures { Promised (promise.upgrade source.now) target.old target.new tt result }
+pub fn upgrade(source: &[u64], target: &mut [u64]) -> Result<(), Refused>
+    ensures { Promised (promise.upgrade source.now) target.old target.new tt (said_done result) }
 {
     if !well_formed_by(Layout::Format1, source) {
-        return Answer::BadArena;
+        return Err(Refused::BadArena);
     }
     let count = header::count(source);
     if target.len() != node_base(NodeNo(count)) {
-        return Answer::BadSize;
+        return Err(Refused::BadSize);
     }
     copy_all(target, source, count);
-    let root = header::root(source);
-    count_node(target, root, header::height(source));
-    Answer::Done
+    count_node(target, header::root(source), header::height(source));
+    Ok(())
 }

@@ -1,7 +1,6 @@
 -- `checker::check_node`, `checker::check_child` and `checker::check_edges`, which call one another, meet their contracts.
 -- Assumes nothing.
-use native.Mathlib.Omega.{arith}
-use Rattle.std.proofs.Common.{refl, None, Some}
+use Rattle.std.proofs.Common.{arith, refl, None, Some}
 use Rattle.inspect.specs.Tests.{reached}
 use Rattle.inspect.proofs.Decisions.{decided, refuted}
 use Rattle.checker.proofs.Nodes.{some_nodes, shape_own, shape_leads, edges_none, edge_next, key_next, edge_stop_to, key_stop, own_said, leaf_said, inner_said}

@@ -1,7 +1,6 @@
 -- `checker::check_leaf` meets its contract.
 -- Assumes nothing.
-use native.Mathlib.Omega.{arith}
-use mathlib.Core.Path.{sym, ◌∙◌}
+use Rattle.std.proofs.Common.{arith, sym, ◌∙◌}
 use Rattle.model.specs.WellFormed.{key_at_by}
 use Rattle.inspect.specs.Tests.{reached, steps}
 use Rattle.inspect.proofs.Decisions.{decided, refuted}

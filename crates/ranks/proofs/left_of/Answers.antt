@@ -2,9 +2,6 @@ use Rattle.std.proofs.Common.{◌≡◌, ℕ, suc, ◌+◌, arith, sym, ap, ◌�
 use Rattle.ranks.proofs.Lefts.{left_sum, edge_in, child_at, sum_more, sum_few, left_is}
 use Rattle.ranks.proofs.left_of.Goals as goal
 
-pub loop-i-init : goal.loop-i-init
-loop-i-init c = λ s o h p l. omega arith
-
 pub edge-requires : goal.edge-requires
 edge-requires c = let q = c.requires in edge_in q.holds q.there.place c.loop-i.i (omega (arith, q.there.inside))
 

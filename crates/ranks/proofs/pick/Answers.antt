@@ -1,5 +1,4 @@
-use Rattle.std.proofs.Common.{◌≡◌, ◌<◌, length, arith, refl}
-use lib.Dec.{lit<}
+use Rattle.std.proofs.Common.{◌≡◌, ◌<◌, length, arith, refl, lit<}
 use Rattle.model.specs.Layout.{pairs_word}
 use Rattle.model.specs.Tree.{flat}
 use Rattle.model.specs.Map.{nth}

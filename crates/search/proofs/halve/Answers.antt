@@ -1,81 +1,23 @@
-use Prim.Native.Nat.{◌+◌, ◌-◌, ◌/◌}
-use native.Mathlib.Omega.{arith}
-use mathlib.Core.Path.{sym, ap}
+use Rattle.std.proofs.Common.{◌+◌, ◌-◌, ◌/◌, arith, sym, ap}
 use Rattle.search.specs.Results.{indexed}
-use Rattle.search.proofs.Halving.{Halved, half, halved_start, halved_right, halved_left, halved_kv, halved_edge, ends_first, ends_last, ends_past}
+use Rattle.search.proofs.Halving.{Halved, halved_start, halved_right, halved_left, halved_kv, halved_edge, ends_first, ends_last, ends_past}
 use Rattle.search.proofs.halve.Goals as goal
 use Rattle.search.proofs.halve.Goals.{Joined-key-x, then-key-x, else-key-x, then-key-y, else-key-y}
-
-pub overflow_sub-size : goal.overflow_sub-size
-overflow_sub-size c = omega (arith, c.requires.0.from, c.requires.0.inside)
 
 pub loop-size-init : goal.loop-size-init
 loop-size-init c = let x = c.requires in (omega (arith, x.0.from, x.0.inside), halved_start _ _ _ _ _ x.1 x.0 (omega (arith, x.0.from, x.0.inside)))
 
-pub overflow_sub-half : goal.overflow_sub-half
-overflow_sub-half c = omega (arith, half c.loop-size.size)
-
-pub overflow_add-x : goal.overflow_add-x
-overflow_add-x c = omega (arith, half c.loop-size.size, c.loop-size.invariant.1.within)
-
-pub overflow_sub-x : goal.overflow_sub-x
-overflow_sub-x c = omega (arith, half c.loop-size.size, c.loop-size.invariant.1.within, c.loop-size-test.true)
-
-pub offset_bounds-keys-i : goal.offset_bounds-keys-i
-offset_bounds-keys-i c = omega (arith, half c.loop-size.size, c.loop-size.invariant.1.within)
-
-pub bounds-keys-i : goal.bounds-keys-i
-bounds-keys-i c = omega (arith, half c.loop-size.size, c.loop-size.invariant.1.within, c.loop-size-test.true)
-
-pub overflow_add-i : goal.overflow_add-i
-overflow_add-i c = omega (arith, half c.loop-size.size, c.loop-size.invariant.1.within)
-
-pub loop-size-smaller-then-x-key : goal.loop-size-smaller-then-x-key
-loop-size-smaller-then-x-key c = omega (arith, half c.loop-size.size, c.loop-size-test.true)
-
 pub loop-size-preserved-then-x-key : goal.loop-size-preserved-then-x-key
 loop-size-preserved-then-x-key c =
     let l = c.loop-size in
-    let z = half l.size in
     let t = c.loop-size-test.true in
     (omega arith, halved_right l.invariant.1 (l.i + (l.size - l.size / 2) - 1) _ _ (omega arith) (omega arith) c.if-x-key.true (omega arith) (omega arith))
-
-pub loop-size-smaller : goal.loop-size-smaller
-loop-size-smaller c = omega (arith, half c.loop-size.size, c.loop-size-test.true)
 
 pub loop-size-preserved : goal.loop-size-preserved
 loop-size-preserved c =
     let l = c.loop-size in
-    let z = half l.size in
     let t = c.loop-size-test.true in
     (omega arith, halved_left l.invariant.1 (l.i + (l.size - l.size / 2) - 1) _ (omega arith) (omega arith) c.if-x-key.false (omega arith) (omega arith))
-
-pub offset_bounds-keys-low : goal.offset_bounds-keys-low
-offset_bounds-keys-low c = omega (arith, c.loop-size.invariant.0, c.loop-size.invariant.1.within)
-
-pub bounds-keys-low : goal.bounds-keys-low
-bounds-keys-low c = omega (arith, c.loop-size.invariant.0, c.loop-size.invariant.1.within)
-
-pub overflow_add-y : goal.overflow_add-y
-overflow_add-y c = omega (arith, c.loop-size.invariant.0, c.loop-size.invariant.1.within)
-
-pub overflow_sub-y : goal.overflow_sub-y
-overflow_sub-y c = omega (arith, c.loop-size.invariant.0, c.loop-size.invariant.1.within)
-
-pub offset_bounds-keys-low-2 : goal.offset_bounds-keys-low-2
-offset_bounds-keys-low-2 c = omega (arith, c.loop-size.invariant.0, c.loop-size.invariant.1.within)
-
-pub bounds-keys-low-2 : goal.bounds-keys-low-2
-bounds-keys-low-2 c = omega (arith, c.loop-size.invariant.0, c.loop-size.invariant.1.within)
-
-pub overflow_add-i-2 : goal.overflow_add-i-2
-overflow_add-i-2 c = omega (arith, c.loop-size.invariant.0, c.loop-size.invariant.1.within)
-
-pub overflow_add-i-then-key-y : goal.overflow_add-i-then-key-y
-overflow_add-i-then-key-y c = omega (arith, c.loop-size.invariant.0, c.loop-size.invariant.1.within)
-
-pub overflow_sub-i : goal.overflow_sub-i
-overflow_sub-i c = omega (arith, c.loop-size.invariant.0, c.loop-size.invariant.1.within)
 
 -- where the halving ends
 over : (c : Joined-key-x) → let x = c.args in Halved x.key x.keys.now x.start.0 c.if-key-x.i 0 c.if-key-x.k

@@ -1,5 +1,5 @@
 -- Assumes nothing.
-use Prim.Native.Nat.{◌<◌}
+use Rattle.std.proofs.Common.{◌<◌}
 use Rattle.search.proofs.Halving.{Halved}
 use Rattle.search.proofs.halve.Given as goal
 

@@ -2,17 +2,10 @@ use Rattle.std.proofs.Common.{◌≡◌, ◌-◌, length, refl, arith}
 use Rattle.model.specs.Search as model
 use Rattle.model.proofs.Forward.{forward}
 use Rattle.model.proofs.Standing.{root_at}
-use Rattle.header.proofs.Headed.{headed}
 use Rattle.search.proofs.Indexes.{is_kv, is_edge, index_end}
 use Rattle.search.proofs.Descents.{at_within, keys_rise, keys_none, found, ended, onward, edge_low}
 use Rattle.search.proofs.search_tree.Goals as goal
 use Rattle.search.proofs.search_tree.Goals.{then-spread, else-spread}
-
-pub root-node-requires : goal.root-node-requires
-root-node-requires c = headed c.requires
-
-pub height-height-requires : goal.height-height-requires
-height-height-requires c = headed c.requires
 
 pub levels-init : goal.levels-init
 levels-init c =

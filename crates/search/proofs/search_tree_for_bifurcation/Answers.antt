@@ -1,19 +1,11 @@
-use mathlib.Core.Path.{◌≡◌, refl}
-use native.Mathlib.Omega.{arith}
+use Rattle.std.proofs.Common.{◌≡◌, refl, arith}
 use Rattle.model.specs.Range.{fork, fork_of}
-use Rattle.header.proofs.Headed.{headed}
 use Rattle.model.specs.Lists.{Rises}
 use Rattle.model.proofs.Forward.{forward}
 use Rattle.model.proofs.Standing.{root_at}
 use Rattle.search.proofs.Descents.{at_within, keys_few, keys_rise, low_few, parting, coinciding, forking_on}
 use Rattle.search.proofs.search_tree_for_bifurcation.Goals as goal
 use Rattle.search.proofs.search_tree_for_bifurcation.Goals.{After-keys-part}
-
-pub root-node-requires : goal.root-node-requires
-root-node-requires c = headed c.requires
-
-pub height-height-requires : goal.height-height-requires
-height-height-requires c = headed c.requires
 
 pub loop-node-init : goal.loop-node-init
 loop-node-init c =

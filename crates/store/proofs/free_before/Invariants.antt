@@ -1,13 +1,10 @@
 -- Assumes nothing.
-use Prim.Native.Nat.{ℕ, ◌≤◌}
-use mathlib.Core.List.{List}
+use Rattle.std.proofs.Common.{◌≡◌, ℕ, List}
 use Rattle.model.specs.Layout.{NodeVal, Arena}
-use Rattle.store.specs.Links.{ReturnReady}
+use Rattle.store.specs.Links.{node_if, ReturnReady}
 use Rattle.store.proofs.Searches.{Searching}
 use Rattle.store.proofs.free_before.Given as goal
 
-abbrev pub invariant-loop-next : goal.invariant-loop-next
-invariant-loop-next l = (l.down ≤ l.initial.n.0) × ((h : List ℕ) (ns : List NodeVal) (free : List ℕ) → ReturnReady h ns free l.initial.n.0 → Arena l.initial.a h ns → Searching ns free l.initial.n.0 l.before l.next l.down)
-
-abbrev pub decreases-loop-next : goal.decreases-loop-next
-decreases-loop-next l = l.down
+abbrev pub invariant-loop-down : goal.invariant-loop-down
+invariant-loop-down l =
+    (h : List ℕ) (ns : List NodeVal) (free : List ℕ) → ReturnReady h ns free l.n.0 → Arena l.a h ns → (b : ℕ) × (l.before ≡ node_if b) × Searching ns free l.n.0 b l.next l.down

@@ -1,8 +1,6 @@
 -- `upgrade::upgrade` meets its contract.
 -- Assumes nothing.
-use native.Mathlib.Omega.{arith}
-use mathlib.Core.Path.{◌≡◌, sym, ap, ◌∙◌}
-use lib.ListN.{length}
+use Rattle.std.proofs.Common.{arith, ◌≡◌, sym, ap, ◌∙◌, length}
 use Rattle.model.specs.declared.Layout.TheVariants.{Format1}
 use Rattle.model.specs.Layout.{base, header, count_word}
 use Rattle.model.specs.WellFormed.{WellFormedBy}
@@ -38,8 +36,8 @@ copy_all-requires c =
     let s = source_sized f in
     rw c.count-count.ensures (record { some = s.some; few = s.few; long_is = long_as (goal.at.copy_all-requires c).Else-target-node_base }, s)
 
-pub root-root-requires : goal.root-root-requires
-root-root-requires c = headed (formed (goal.at.root-root-requires c).Else-not-well_formed_by)
+pub root-requires : goal.root-requires
+root-requires c = headed (formed (goal.at.root-requires c).Else-not-well_formed_by)
 
 pub height-requires : goal.height-requires
 height-requires c = headed (formed (goal.at.height-requires c).Else-not-well_formed_by)
@@ -47,9 +45,9 @@ height-requires c = headed (formed (goal.at.height-requires c).Else-not-well_for
 pub count_node-requires : goal.count_node-requires
 count_node-requires c =
     let f = formed (goal.at.count_node-requires c).Else-not-well_formed_by in
-    record { head = _; nodes = _; arena = copied_arena f _ (rw c.count-count.ensures at c.copy_all.ensures); holds = rw (c.root-root.ensures, c.height.ensures) (copied_tree f) }
+    record { head = _; nodes = _; arena = copied_arena f _ (rw c.count-count.ensures at c.copy_all.ensures); holds = rw (c.root.ensures, c.height.ensures) (copied_tree f) }
 
 pub returns : goal.returns
 returns c =
     let f = formed (goal.at.returns c).Else-not-well_formed_by in
-    upgrade_done f (long_as (goal.at.returns c).Else-target-node_base) (counted_words f _ ((rw (c.root-root.ensures, c.height.ensures) at c.count_node.ensures) _ _ (copied_tree f) (copied_arena f _ (rw c.count-count.ensures at c.copy_all.ensures))))
+    upgrade_done f (long_as (goal.at.returns c).Else-target-node_base) (counted_words f _ ((rw (c.root.ensures, c.height.ensures) at c.count_node.ensures) _ _ (copied_tree f) (copied_arena f _ (rw c.count-count.ensures at c.copy_all.ensures))))
