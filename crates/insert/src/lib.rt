@@ -46,7 +46,13 @@ fn insert_fit(a: &mut [u64], n: NodeNo, at: Place, kv: Kv, child: Option<NodeNo>
 }
 
 // The same at any edge: a full node is split. Counts are left as they were.
-fn insert_or_split(a: &mut [u64], n: NodeNo, at: Place, kv: Kv, child: Option<NodeNo>) -> Option<SplitResult>
+fn insert_or_split(
+    a: &mut [u64],
+    n: NodeNo,
+    at: Place,
+    kv: Kv,
+    child: Option<NodeNo>,
+) -> Option<SplitResult>
     requires { GapAt a.old n.0 at.0 child }
     ensures { (k : ℕ) (s : Gap a.old (level child k) n.0 at.0 (number child)) → RawOutcome s (pair_of kv) a.new result }
 {

@@ -1,7 +1,7 @@
 -- `border::fix_top` meets its contract: while the root is internal and empty, what the tops come to stays the same.
 -- Assumes nothing.
 use Prim.Native.Nat.{suc}
-use mathlib.Core.Path.{◌≡◌, refl, ◌∙◌, subst}
+use mathlib.Core.Path.{◌≡◌, ◌∙◌, subst}
 use native.Mathlib.Omega.{arith}
 use lib.ListN.{length}
 use Rattle.model.specs.Nodes.{Grown}

@@ -1,11 +1,8 @@
 -- `fix::fix_node_and_affected_ancestors` meets its contract: whatever the repair was going to, it is going to still.
 -- Assumes nothing.
-use mathlib.Core.Path.{refl, subst}
 use native.Mathlib.Omega.{arith}
 use Rattle.model.specs.Nodes.{Grown}
-use Rattle.std.proofs.Common.{Option, Result, Ok, Some}
-use Rattle.node.specs.declared.NodeNo.{NodeNo}
-use Rattle.fix.specs.declared.EmptyRoot.{EmptyRoot}
+use Rattle.std.proofs.Common.{Ok, Some}
 use Rattle.standing.specs.Heads.{Rest}
 use Rattle.fix.specs.Repairs.{Mending, Fixing}
 use Rattle.fix.proofs.Balances.{mending_used}

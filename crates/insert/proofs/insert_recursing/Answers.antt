@@ -1,6 +1,6 @@
 -- `insert::insert_recursing` meets its contract: every result that the climb was going to where the loop began, it is going to still.
 -- Assumes nothing.
-use Rattle.std.proofs.Common.{ℕ, refl, sym, ◌∙◌, arith}
+use Rattle.std.proofs.Common.{ℕ, sym, ◌∙◌, arith}
 use Rattle.model.specs.Nodes.{Grown}
 use Rattle.model.specs.Insert.{rise}
 use Rattle.model.specs.State.{State}
