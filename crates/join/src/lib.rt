@@ -5,7 +5,8 @@ ghost use Rattle.std.specs.Prelude.{◌≡◌, ℕ, ◌+◌, ◌<◌, length};
 ghost use Rattle.model.specs.Lists.{All};
 ghost use Rattle.model.specs.Layout.{header, pairs_word};
 ghost use Rattle.model.specs.Tree.{Pair};
-ghost use Rattle.model.specs.Mark.{Mark, Covers, seen_of, mark_of};
+ghost use Rattle.model.specs.Mark.{Covers};
+ghost use Rattle.header.specs.Headers.{marked};
 ghost use Rattle.model.specs.State.{State};
 ghost use Rattle.model.specs.Load.{pairs_of, loaded_with};
 ghost use Rattle.model.specs.Room.{nodes_for};
@@ -26,12 +27,12 @@ use merging::{merge_count, merge_into};
 use model::Refused;
 
 // Formats an arena and loads a run that rises into it, with a mark that no key exceeds.
-fn load_anew(a: &mut [u64], run: &[u64], seen: u64, mark: u64)
+fn load_anew(a: &mut [u64], run: &[u64], mark: Option<u64>)
     requires { AnewIn a.old run.now }
-    ensures { (n : ℕ) (m : Mark) → Anew n a.old run.now → All (λ (p : Pair). Covers m p.key) (pairs_of run.now) → seen ≡ seen_of m → mark ≡ mark_of m → a.new ≡ words_of (loaded_with m n (pairs_of run.now)) }
+    ensures { (n : ℕ) → Anew n a.old run.now → All (λ (p : Pair). Covers (marked mark) p.key) (pairs_of run.now) → a.new ≡ words_of (loaded_with (marked mark) n (pairs_of run.now)) }
 {
     write_all(a, header::count(a));
-    load_marked(a, run, seen, mark);
+    load_marked(a, run, mark);
 }
 
 // Whether a load of the joined run takes more nodes than the first has. No walk is needed where there are enough for all pairs of both.
@@ -49,12 +50,10 @@ fn join_all(first: &mut [u64], second: &mut [u64], third: &mut [u64])
     ensures { (s t : State) → Holds first.old s → Holds second.old t → (first.new ≡ words_of (joined s t)) × (second.new ≡ words_of (emptied t)) × (third.new ≡ laid (joined_run s t) third.old) }
 {
     let words = 2 * merge_into(first, second, third);
-    let seen = header::seen(second);
-    let mark = header::mark(second);
-    let most_seen = header::seen(first).max(seen);
-    let most = header::mark(first).max(mark);
-    load_anew(first, &third[0..words], most_seen, most);
-    load_anew(second, &third[0..0], seen, mark);
+    let mark = header::stored_mark(second);
+    let most = header::stored_mark(first).max(mark);
+    load_anew(first, &third[0..words], most);
+    load_anew(second, &third[0..0], mark);
 }
 
 // Joins the second arena to the first. The joined run is written to the third slice; of a key in both the second's pair stays.

@@ -16,4 +16,4 @@ pub load_marked-requires : goal.load_marked-requires
 load_marked-requires c = let x = c.requires in record { count = x.count; loads = ready (goal.at.load_marked-requires c).After-write_all x.count x.anew }
 
 pub returns : goal.returns
-returns c = λ n m y covers seen mark. c.load_marked.ensures n m (ready (goal.at.returns c).After-write_all n y) covers seen mark
+returns c = λ n y covers. c.load_marked.ensures n (ready (goal.at.returns c).After-write_all n y) covers
