@@ -27,12 +27,12 @@ module _ (w : List ℕ) (R S : Answer → Type 0) (g : (a : Answer) → R a → 
 
 module _ (w : List ℕ) (P : Range → Type 0) (S : Answer → Type 0) (s e : Option SearchBound) where
   -- the range that the bounds span
-  pub between : (q : Range) → Spanned w (λ t. Ok q ≡ Ok t) (IsRefusal (Ok q)) s e → P q → Spanned w P S s e
-  between q x p = spanned_as w (IsRefusal (Ok q)) S (λ a y. let r = y.1 in cc) (λ t. Ok q ≡ Ok t) P (λ t y. let k : q ≡ t = cc in subst P k p) s e x
+  pub between : (q : Range) → Spanned w (λ (t : Range). ◌≡◌ {A = Result Range Refused} (Ok q) (Ok t)) (IsRefusal (Ok q)) s e → P q → Spanned w P S s e
+  between q x p = spanned_as w (IsRefusal (Ok q)) S (λ a y. let r = y.1 in cc) (λ (t : Range). ◌≡◌ {A = Result Range Refused} (Ok q) (Ok t)) P (λ t y. let k : q ≡ t = cc in subst P k p) s e x
 
   -- none, since one is of no kind
-  pub between_none : (why : Refused) → Spanned w (λ t. Err why ≡ Ok t) (IsRefusal (Err why)) s e → S (refused why) → Spanned w P S s e
-  between_none why x p = spanned_as w (IsRefusal (Err why)) S (λ a y. let r = y.1 in let q = y.2 in let k : refused why ≡ a = cc in subst S k p) (λ t. Err why ≡ Ok t) P (λ t y. cc) s e x
+  pub between_none : (why : Refused) → Spanned w (λ (t : Range). ◌≡◌ {A = Result Range Refused} (Err why) (Ok t)) (IsRefusal (Err why)) s e → S (refused why) → Spanned w P S s e
+  between_none why x p = spanned_as w (IsRefusal (Err why)) S (λ a y. let r = y.1 in let q = y.2 in let k : refused why ≡ a = cc in subst S k p) (λ (t : Range). ◌≡◌ {A = Result Range Refused} (Err why) (Ok t)) P (λ t y. cc) s e x
 
   -- the bounds by another name
   pub same_bounds : (s' e' : Option SearchBound) → s ≡ s' → e ≡ e' → Spanned w P S s e → Spanned w P S s' e'

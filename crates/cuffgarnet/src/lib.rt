@@ -320,7 +320,11 @@ pub extern "C" fn cuffgarnet_previous(
 ) -> u64
     ensures { Paired (Stepping (λ c. Promised (promise.previous changes c) arena.now arena.now) cursor.old cursor.new) result key.new value.new }
 {
-    hand_pair(Picked::from(keep_previous(arena, changes, cursor)), key, value)
+    hand_pair(
+        Picked::from(keep_previous(arena, changes, cursor)),
+        key,
+        value,
+    )
 }
 
 // Reads a format 1 arena into a second slice.
