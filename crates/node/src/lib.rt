@@ -8,6 +8,7 @@ ghost use Rattle.model.specs.Insert as model;
 ghost use Rattle.node.specs.Reading.{Within, ascent_of, rising_of};
 
 // No node: the parent of the root, the end of the free chain.
+// Stays a number: the word that lies in the arena; `ascend` and `store::free_before` hand out options.
 pub const NONE: u64 = 4_294_967_295;
 
 // The words before the first node, and those of a node.
@@ -21,6 +22,7 @@ pub const CAPACITY: usize = 11;
 pub const MIN_LEN: usize = 5;
 
 // A node's state.
+// Stays numbers: words of the arena, read and compared as they lie there; clauses (`balance::edges_with`) speak of any word, which no enum has.
 pub const FREE: u64 = 0;
 
 pub const LEAF: u64 = 1;
@@ -65,6 +67,8 @@ pub fn larger(x: u64, y: u64) -> u64
     }
     x
 }
+
+// Stays functions of the words and a number: a view of a node would borrow the words, be made anew after each write, and ask `Within` there.
 
 // The index of a node's first word.
 pub fn node_base(n: NodeNo) -> usize
