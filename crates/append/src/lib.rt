@@ -15,7 +15,6 @@ ghost use Rattle.model.specs.Load as load;
 ghost use Rattle.model.specs.Load.{pairs_of, Even};
 ghost use Rattle.model.specs.Room.{nodes_for};
 ghost use Rattle.leaf.specs.Pairs.{RoomAt, insert_pair};
-ghost use Rattle.internal.specs.Inner.{FitReady, fit_nodes};
 ghost use Rattle.standing.specs.Heads.{Rest, ClosedBy, Uncounted};
 ghost use Rattle.inspect.specs.Tests.{Decides};
 ghost use Rattle.appending.specs.Pushes as pushes;
@@ -27,9 +26,9 @@ use balance::BalancingContext;
 use columns::{insert_word, set_len};
 use counting::count_node;
 use header::PAIRS;
-use internal::{new_internal, push_internal_level};
+use internal::{insert_fit, new_internal, push_internal_level};
 use node::{CAPACITY, EDGES, KEYS, Kv, LEAF, MIN_LEN, NodeNo, Place, VALS, ascend, edge, len};
-use store::{correct_childrens_parent_links, take_node};
+use store::take_node;
 
 // An empty right side: its top, and its leaf.
 #[derive(Clone, Copy)]
@@ -91,31 +90,16 @@ fn push_pair(a: &mut [u64], n: NodeNo, count: usize, kv: Kv)
     set_len(a, n, count + 1);
 }
 
-// The same with an edge right of it, in an internal node.
-fn push_edge(a: &mut [u64], n: NodeNo, count: usize, kv: Kv, right: NodeNo)
-    requires { Has a.old (λ h ns. FitReady ns n.0 count right.0) × (count ≡ word_at a.old n.0 length_word) }
-    ensures { (h : List ℕ) (ns : List NodeVal) → FitReady ns n.0 count right.0 → Arena a.old h ns → Arena a.new h (fit_nodes ns n.0 count (pair_of kv) right.0) }
-{
-    let next = count + 1;
-    push_pair(a, n, count, kv);
-    insert_word(a, n, EDGES, next, next, right.0 as u64);
-    correct_childrens_parent_links(a, n, next, next + 1);
-}
-
 // Puts a pair after all others, where the last leaf is full. Answers the last leaf then, which is empty.
 fn push_up(a: &mut [u64], leaf: NodeNo, kv: Kv) -> NodeNo
     requires { pushes.PushIn a.old leaf.0 (pair_of kv) × (most ≤ word_at a.old leaf.0 length_word) }
     ensures { (g : Rest) (l : load.Loading) → pushes.LoadIn a.old g leaf.0 l → (load.push (pair_of kv) l).next ≤ g.size → pushes.LoadIn a.new g result.0 (load.push (pair_of kv) l) }
 {
     let open = open_node(a, leaf);
-    let node = open.node;
-    let levels = open.levels;
-    let right = right_side(a, levels);
-    let top = right.top;
-    let last = right.leaf;
-    let at = len(a, node);
-    push_edge(a, node, at, kv, top);
-    last
+    let right = right_side(a, open.levels);
+    let at = Place(len(a, open.node));
+    insert_fit(a, open.node, at, kv, right.top);
+    right.leaf
 }
 
 // The last leaf, and how many pairs it has.
@@ -150,9 +134,7 @@ pub fn push(a: &mut [u64], leaf: NodeNo, kv: Kv) -> NodeNo
     ensures { (g : Rest) (l : load.Loading) → pushes.LoadIn a.old g leaf.0 l → (load.push (pair_of kv) l).next ≤ g.size → pushes.LoadIn a.new g result.0 (load.push (pair_of kv) l) }
 {
     let n = len(a, leaf);
-    let last = push_on(a, leaf, n, kv);
-    let after = last.leaf;
-    after
+    push_on(a, leaf, n, kv).leaf
 }
 
 // A node's last child is stocked to 5 from its left neighbour. Answers the last child.

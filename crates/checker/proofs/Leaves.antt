@@ -1,17 +1,11 @@
 -- A leaf that holds a pair or more: its keys rise strictly exactly when all its words for keys have as many ascents as it has keys, less one.
 -- Assumes nothing.
-use Prim.Native.Nat.{ℕ, zero, suc, ◌+◌, ◌-◌, ◌≤◌, ◌<◌}
-use native.Mathlib.Numerals.{sub-one}
-use native.Mathlib.Omega.{arith}
-use mathlib.Core.Path.{◌≡◌, refl, sym, ap, subst, ◌∙◌}
-use mathlib.Core.List.{List, [], ◌∷◌}
-use lib.ListN.{length, length-append}
+use Rattle.std.proofs.Common.{ℕ, zero, suc, ◌+◌, ◌-◌, ◌≤◌, ◌<◌, sub-one, arith, ◌≡◌, refl, sym, ap, subst, ◌∙◌, List, [], ◌∷◌, length, length-append, Option, Some}
 use Rattle.model.specs.Lists.{mix_to}
 use Rattle.model.specs.declared.Layout.{Layout}
 use Rattle.model.specs.Layout.{keys_word, Counts, total_word, word_at_by}
 use Rattle.model.specs.WellFormed.{Reached, ZerosBy, length_at_by, key_at_by, reach_by, keys_in_by}
 use Rattle.model.specs.Shape.{OwnBy, ShapeBy}
-use Rattle.std.proofs.Common.{Option, Some}
 use Rattle.inspect.specs.Tests.{Above, ups, rise, steps}
 use Rattle.inspect.proofs.Ups.{ups_few, ups_flat, rise_few, rise_is, rise_not}
 use Rattle.inspect.proofs.Decisions.{apart}

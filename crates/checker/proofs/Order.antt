@@ -1,14 +1,10 @@
 -- Keys that rise from the last one passed: in parts, as the model says it, and beside the mark.
 -- Assumes nothing.
-use Prim.Native.Nat.{ℕ, ◌≤◌, ◌<◌}
-use native.Mathlib.Omega.{arith}
-use mathlib.Core.Path.{◌≡◌, refl, sym, subst}
-use mathlib.Core.List.{List, [], ◌∷◌, ◌++◌}
+use Rattle.std.proofs.Common.{ℕ, ◌≤◌, ◌<◌, arith, ◌≡◌, refl, sym, subst, List, [], ◌∷◌, ◌++◌, Option, None, Some}
 use Rattle.model.specs.Lists as lists
 use Rattle.model.specs.Lists.{All, AllAbove}
 use Rattle.model.proofs.Lists.{all_map}
 use Rattle.model.proofs.Keys.{Marks}
-use Rattle.std.proofs.Common.{Option, None, Some}
 use Rattle.inspect.specs.Tests.{Marked}
 use Rattle.checker.specs.Walks.{Rises, last_of}
 

@@ -1,11 +1,6 @@
 -- The whole arena: what the tests found makes it well-formed, and a well-formed one passes them.
 -- Assumes nothing.
-use Rattle.std.proofs.Common.{None}
-use Prim.Native.Nat.{ℕ}
-use native.Mathlib.Omega.{arith}
-use mathlib.Core.Path.{◌≡◌, ap, subst, sym}
-use mathlib.Core.Bool.{Bool, true}
-use mathlib.Core.List.{List}
+use Rattle.std.proofs.Common.{None, ℕ, arith, ◌≡◌, ap, subst, sym, Bool, true, List}
 use Rattle.model.specs.declared.Layout.{Layout}
 use Rattle.model.specs.Layout.{header, seen_word, mark_word}
 use Rattle.model.specs.WellFormed.{WellFormedBy, WellFormed, keys_by}

@@ -26,6 +26,7 @@ pub trait Format {
     ghost words_is: { WORDS ≡ node_size_by layout };
 }
 
+// The two formats as types; no value of them is made.
 pub struct Format1;
 
 pub struct Format2;
@@ -71,6 +72,9 @@ pub struct Arena<'a, F: Format> {
     pub ghost sized: { SizedBy F.layout count (length words.now) },
 }
 
+// Stays a clause of each, that the arena has the node: of a struct of an arena and its node the tests would have to say beside each reading
+// whose words they are, since they speak of other nodes and of the whole arena too.
+// Stays beside the readers of `node`, which are format 2's alone: of one reader for both, each call there would have to say the format.
 impl<F: Format> Arena<'_, F> {
     // The index of a node's first word.
     pub fn base(&self, n: NodeNo) -> usize

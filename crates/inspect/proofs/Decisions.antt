@@ -1,11 +1,7 @@
 -- What a test that decides tells, and tests made of others.
 -- Assumes nothing.
-use Prim.Native.Nat.{ℕ, ◌≤◌, ◌<◌}
-use native.Mathlib.Omega.{arith}
-use mathlib.Core.Path.{◌≡◌, refl, subst}
-use mathlib.Core.Bool.{Bool, true, false}
-use lib.Dec.{eqb, ltb, leb}
-use borrow.Author.Tests.{eqb-true, eqb-false, ltb-true, ltb-false, leb-true, leb-false}
+use Rattle.std.proofs.Common.{ℕ, ◌≤◌, ◌<◌, arith, ◌≡◌, refl, subst, Bool, true, false, eqb, ltb, eqb-true, ltb-true, ltb-false}
+use borrow.Author.Tests.{eqb-false}
 use Rattle.inspect.specs.Tests.{Decides}
 
 -- the test `!b` failed, or held
@@ -40,13 +36,6 @@ less x y = go (ltb x y) refl
     go : (t : Bool) → ltb x y ≡ t → Decides t (x < y)
     go true e = ltb-true x y e
     go false e = λ l. let m = ltb-false x y e in omega arith
-
-pub at_most : (x y : ℕ) → Decides (leb x y) (x ≤ y)
-at_most x y = go (leb x y) refl
-  where
-    go : (t : Bool) → leb x y ≡ t → Decides t (x ≤ y)
-    go true e = leb-true x y e
-    go false e = λ l. let m = leb-false x y e in omega arith
 
 -- one of two numbers is below the other, or not
 pub apart : (x y : ℕ) {P : Type 0} → (x < y → P) → (y ≤ x → P) → P

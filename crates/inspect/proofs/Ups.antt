@@ -1,14 +1,6 @@
 -- The count of ascents: all of them exactly when the numbers rise at each step, and none where zeros follow.
 -- Assumes nothing.
-use Prim.Native.Nat.{ℕ, zero, suc, ◌+◌, ◌≤◌, ◌<◌}
-use native.Mathlib.Nat.{eq-or-lt_of_le, le_of_suc-le-suc}
-use native.Mathlib.Numerals.{add-one}
-use native.Mathlib.Omega.{arith}
-use mathlib.Core.Path.{◌≡◌, refl}
-use mathlib.Core.Bool.{Bool, true, false}
-use mathlib.Core.Logic.{⊎_elim}
-use lib.Dec.{ltb}
-use borrow.Author.Tests.{ltb-true, ltb-false}
+use Rattle.std.proofs.Common.{ℕ, zero, suc, ◌+◌, ◌≤◌, ◌<◌, eq-or-lt_of_le, le_of_suc-le-suc, add-one, arith, ◌≡◌, refl, Bool, true, false, ⊎_elim, ltb, ltb-true, ltb-false}
 use Rattle.inspect.specs.Tests.{rise, ups}
 
 -- what a test says of a rise

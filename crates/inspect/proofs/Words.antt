@@ -1,16 +1,10 @@
 -- Laws of the words that the tests read: zeros one more, the chain by its first node, leaf or internal.
 -- Assumes nothing.
-use Prim.Native.Nat.{ℕ, zero, suc, ◌+◌, ◌-◌, ◌≤◌, ◌<◌}
-use native.Mathlib.Numerals.{sub-one}
-use native.Mathlib.Omega.{arith}
-use mathlib.Core.Path.{◌≡◌, refl}
-use mathlib.Core.List.{List, [], ◌∷◌}
-use Rattle.std.proofs.Common.{◌↔◌, fold, take, drop, length, length-take, get_or-take, get_or-drop, sym, ap, ◌∙◌}
-use lib.ListN.{get_or}
-use lib.Bits.{bit_or, or_add_and, and_le_l, and_le_r}
+use Rattle.std.proofs.Common.{ℕ, zero, suc, ◌+◌, ◌-◌, ◌≤◌, ◌<◌, sub-one, arith, ◌≡◌, refl, List, [], ◌∷◌, ◌↔◌, fold, take, drop, length, length-take, get_or-take, get_or-drop, sym, ap, ◌∙◌, get_or, bit_or}
+use lib.Bits.{or_add_and, and_le_l, and_le_r}
 use Rattle.model.specs.declared.Layout.{Layout}
-use Rattle.model.specs.Layout.{none, most, base_by, word_at_by, parent_word, keys_word, values_word, edges_word, total_word}
-use Rattle.model.specs.WellFormed.{Reached, ZerosBy, UnusedZeroBy, length_at_by, edges_used}
+use Rattle.model.specs.Layout.{none, most, base_by, word_at_by, parent_word, keys_word, values_word}
+use Rattle.model.specs.WellFormed.{ZerosBy}
 use Rattle.model.specs.Shape.{OwnFreeBy, ChainBy}
 use Rattle.inspect.specs.Tests.{RestZeroBy}
 
@@ -83,10 +77,6 @@ module _ (fm : Layout) (w : List ℕ) (count : ℕ) where
       let z : free - (k + 1) ≡ free - k - 1 = omega arith in
       (λ h. rw (e, z) (chain_out (free - k) x (omega arith) h).1, λ h. chain_in (free - k) x (omega arith) o (rw (e, z) at h))
 
-pub used_most : (h n : ℕ) → edges_used h n ≤ n + 1
-used_most zero n = omega arith
-used_most (suc h) n = omega arith
-
 -- ---- the words for pairs that are not in use
 
 -- the words for the pairs from f up to t are 0
@@ -103,23 +93,3 @@ bare_rest fm w n m e z = record {
   keys = λ k l u. let d : keys_word + (k - keys_word) ≡ k = omega arith in rw (e, d) at (z (k - keys_word) (omega arith) (omega arith)).0;
   values = λ k l u. let d : values_word + (k - values_word) ≡ k = omega arith in rw (e, d) at (z (k - values_word) (omega arith) (omega arith)).1;
 }
-
-used_leaf : (h n : ℕ) → h ≡ 0 → edges_used h n ≡ 0
-used_leaf zero n z = refl
-used_leaf (suc h) n z = absurd (omega arith)
-
-module _ (fm : Layout) (w : List ℕ) (r : Reached) (m : ℕ) (low : r.below ≡ 0) (long : m ≡ length_at_by fm w r.node) where
-  pub leaf_unused : ZerosBy fm w r.node edges_word total_word → RestZeroBy fm w r.node m → UnusedZeroBy fm w r
-  unfolding ZerosBy
-  leaf_unused z s = record {
-    keys_rest = rw long at s.keys;
-    values_rest = rw long at s.values;
-    edges_rest = λ k l u. z k (omega (arith, l, used_leaf r.below (length_at_by fm w r.node) low)) u;
-  }
-
-  pub unused_rest : UnusedZeroBy fm w r → RestZeroBy fm w r.node m
-  unused_rest u = record { keys = rw long u.keys_rest; values = rw long u.values_rest }
-
-  pub unused_edges : UnusedZeroBy fm w r → ZerosBy fm w r.node edges_word total_word
-  unfolding ZerosBy
-  unused_edges u k l t = u.edges_rest k (omega (arith, l, used_leaf r.below (length_at_by fm w r.node) low)) t

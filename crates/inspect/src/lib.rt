@@ -6,7 +6,7 @@ ghost use Rattle.model.specs.Layout.{least, most, node_size_by};
 ghost use Rattle.model.specs.Words.{kind};
 ghost use Rattle.model.specs.WellFormed.{UnusedZeroBy, FreeZeroBy, LinkedBy, ZerosBy, length_at_by, key_at_by, edges_used};
 ghost use Rattle.model.specs.Shape.{OwnBy, ChainBy};
-ghost use Rattle.inspect.specs.Tests.{Decides, HeadedBy, RestZeroBy, LeadsBy, Above, Marked, reached, rise, ups, steps};
+ghost use Rattle.inspect.specs.Tests.{Decides, HeadedBy, RestZeroBy, LeadsBy, Above, Marked, reached, ups, steps};
 
 use formats::{Arena, Format};
 use node::{
@@ -118,7 +118,8 @@ pub fn own<F: Format>(arena: &Arena<F>, v: Visit) -> bool
     headed(arena, v) && unused(arena, v, arena.len(v.node))
 }
 
-// The same of a leaf that is not the root, with no turns by its length: that is faster.
+// The same of a leaf that is not the root, with no turns by its length.
+// Stays beside `own`, and `rest_zero` beside `zeros`: tried with `own` in its place, a check took two fifths more instructions.
 pub fn own_leaf<F: Format>(arena: &Arena<F>, v: Visit) -> bool
     requires { (v.below ≡ 0) × (v.fewest ≡ least) }
     ensures { Decides result (OwnBy F.layout arena.now.words.now arena.now.count (reached v)) }
@@ -180,13 +181,6 @@ pub fn above(last: Option<u64>, key: u64) -> bool
     last.is_none_or(|k| k < key)
 }
 
-// 1 where the second is above the first.
-fn up(x: u64, y: u64) -> usize
-    ensures { result ≡ rise x y }
-{
-    if x < y { 1 } else { 0 }
-}
-
 // How many of the words for keys, but the last, are below the next one.
 pub fn ascents<F: Format>(arena: &Arena<F>, node: NodeNo) -> usize
     requires { node.0 < arena.now.count }
@@ -194,7 +188,7 @@ pub fn ascents<F: Format>(arena: &Arena<F>, node: NodeNo) -> usize
 {
     let mut m = 0;
     for i in 0..STEPS {
-        m += up(arena.key(node, Place(i)), arena.key(node, Place(i + 1)));
+        m += usize::from(arena.key(node, Place(i)) < arena.key(node, Place(i + 1)));
     }
     m
 }

@@ -10,9 +10,9 @@ use lib.Seq.{take_at}
 use lib.ListN.{length, take, drop, length-append}
 use Rattle.model.specs.declared.Answer.TheVariants.{Done, NoRoom, BadArena, BadSize}
 use Rattle.model.specs.Lists.{All, count}
-use Rattle.model.specs.Layout.{Sized, header, count_word, pairs_word, seen_word, mark_word}
+use Rattle.model.specs.Layout.{Sized, header, count_word, pairs_word}
 use Rattle.model.specs.Tree.{Pair}
-use Rattle.model.specs.Mark.{Covers, higher, seen_of, mark_of}
+use Rattle.model.specs.Mark.{Covers, higher, seen}
 use Rattle.model.specs.Map.{Rising}
 use Rattle.model.specs.State.{State, list, formatted, others_of}
 use Rattle.model.specs.Load.{loaded_with}
@@ -25,12 +25,17 @@ use Rattle.model.proofs.Lists.{all_map}
 use Rattle.model.proofs.Marks.{covers_left, covers_right}
 use Rattle.model.proofs.Held.{words_long}
 use Rattle.model.proofs.Backward.{backward}
-use Rattle.model.proofs.Header.{header_is, seen_is, mark_is}
+use Rattle.model.proofs.Header.{header_is}
 use Rattle.model.proofs.Unique.{in_state}
 use Rattle.loading.proofs.Runs.{pairs_back, words_even}
 use Rattle.loading.proofs.Merging.{all_merge, rising_merge, length_merge}
 use Rattle.loading.proofs.Least.{nodes_more}
-use Rattle.restore.proofs.Restored.{seen_higher, mark_higher}
+use Rattle.std.proofs.Common.{Bool, false, cond, Option, Some, None, Ordering, Less, Equal, Greater, nat_cmp}
+use Rattle.std.specs.Ordering.{MatchOrdering, is_lt, ord_max}
+use Rattle.std.specs.Option.{option_cmp}
+use Rattle.std.proofs.lemmas.Cmp.{ranked}
+use Rattle.header.specs.Headers.{marked}
+use Rattle.inspect.specs.Tests.{Decides}
 use Rattle.listing.proofs.Sofar.{words_length}
 use Rattle.appending.specs.Runs.{Loads}
 use Rattle.join.specs.Joins.{Anew}
@@ -92,18 +97,28 @@ module _ {w v : List ℕ} {s t : State} (h : Holds w s) (g : Holds v t) where
       (all_map _ _ (λ (p : Pair). covers_left s.mark t.mark p.key) (list s) h.sound.covered)
       (all_map _ _ (λ (p : Pair). covers_right s.mark t.mark p.key) (list t) g.sound.covered)
 
-  pub higher_seen : max (header w seen_word) (header v seen_word) ≡ seen_of (higher s.mark t.mark)
-  higher_seen = ap₂ max (seen_is h) (seen_is g) ∙ sym (seen_higher s.mark t.mark)
-
-  pub higher_mark : max (header w mark_word) (header v mark_word) ≡ mark_of (higher s.mark t.mark)
-  higher_mark = ap₂ max (mark_is h) (mark_is g) ∙ sym (mark_higher s.mark t.mark)
-
   pub pairs_are : header w pairs_word + header v pairs_word ≡ length (list s) + length (list t)
   pairs_are = ap₂ ◌+◌ (header_is h pairs_word (lit< tt)) (header_is g pairs_word (lit< tt))
 
   -- nodes for the pairs of both are enough
   pub enough : (pairs : ℕ) → pairs ≡ header w pairs_word + header v pairs_word → nodes_for pairs ≤ header w count_word → nodes_for (length (joined_run s t)) ≤ s.size
   enough pairs e l = omega (arith, nodes_more (length (joined_run s t)) pairs (omega (arith, length_merge (list s) (list t), pairs_are, e)), count_of h, l)
+
+-- the greater of two options is the higher mark
+greater_marked : (a b : ℕ) (r : Ordering) → MatchOrdering r (b < a) (b ≡ a) (a < b) → marked (cond (is_lt r) (Some a) (Some b)) ≡ higher (seen a) (seen b)
+greater_marked a b Less l = ap seen (let e : a ≡ max a b = omega arith in e)
+greater_marked a b Equal l = ap seen (let e : b ≡ max a b = omega arith in e)
+greater_marked a b Greater l = ap seen (let e : b ≡ max a b = omega arith in e)
+
+pub higher_marked : (x y : Option ℕ) → marked (ord_max (option_cmp nat_cmp) x y) ≡ higher (marked x) (marked y)
+higher_marked None None = refl
+higher_marked None (Some b) = refl
+higher_marked (Some a) None = refl
+higher_marked (Some a) (Some b) = greater_marked a b (nat_cmp b a) (ranked b a (nat_cmp b a) refl)
+
+-- what a test that fails decides
+pub no_less : {b : Bool} {P : Type 0} → b ≡ false → (P → ⊥) → Decides b P
+no_less {b} {P} q n = subst (λ (v : Bool). Decides v P) (sym q) n
 
 -- ---- the promise
 

@@ -1,46 +1,26 @@
--- Four words, one by one.
+-- A refused step, on the words.
 -- Assumes nothing.
-use Prim.Native.Nat.{ℕ, zero, suc, ◌≤◌, ◌<◌}
-use native.Mathlib.Omega.{arith}
-use mathlib.Core.Path.{◌≡◌, refl, sym, ap, ◌∙◌, subst}
-use mathlib.Core.List.{List, [], ◌∷◌}
-use lib.ListN.{length, set}
-use borrow.Author.Tests.{lt-ltb, le-ltb}
+use Rattle.std.proofs.Common.{◌≡◌, ℕ, refl, subst, List, Err}
 use Rattle.model.specs.declared.Picked.{Picked}
-use Rattle.model.specs.Layout.{none}
-use Rattle.model.specs.Answer.{numbers_of}
-use Rattle.model.specs.Cursor.{on, Cursor}
-use Rattle.cursor.specs.declared.Cursor as code
-use Rattle.cursor.specs.declared.Moved.{Moved}
-use Rattle.cursor.specs.Cursors.{cursor_of}
-use Rattle.kept.specs.Kept.{stand_by, cursor_by, cursor_words, step_words, Steps}
+use Rattle.model.specs.declared.Refused.{Refused}
+use Rattle.model.specs.declared.Refused.TheVariants.{NoRoom, BadArena, BadRange, BadOrder, BadSize, BadImage, StaleCursor, NotRising, Spent, Older}
+use Rattle.model.specs.Answer.{said_picked}
+use Rattle.model.specs.Cursor.{Cursor}
+use Rattle.kept.specs.Kept.{cursor_by, step_words, Steps}
 
-pub four_set : (u : List ℕ) (a b c d : ℕ) → length u ≡ 4 → set (set (set (set u 0 a) 1 b) 2 c) 3 d ≡ a ∷ b ∷ c ∷ d ∷ []
-four_set [] a b c d e = absurd (omega arith)
-four_set (w ∷ []) a b c d e = absurd (omega arith)
-four_set (w ∷ x ∷ []) a b c d e = absurd (omega arith)
-four_set (w ∷ x ∷ y ∷ []) a b c d e = absurd (omega arith)
-four_set (w ∷ x ∷ y ∷ z ∷ []) a b c d e = refl
-four_set (w ∷ x ∷ y ∷ z ∷ v ∷ u) a b c d e = absurd (omega arith)
+-- a refused step leaves the words
+step_kept : (e : Refused) (c : Cursor) (u : List ℕ) → u ≡ step_words (said_picked (Err e)) c u
+step_kept NoRoom c u = refl
+step_kept BadArena c u = refl
+step_kept BadRange c u = refl
+step_kept BadOrder c u = refl
+step_kept BadSize c u = refl
+step_kept BadImage c u = refl
+step_kept StaleCursor c u = refl
+step_kept NotRising c u = refl
+step_kept Spent c u = refl
+step_kept Older c u = refl
 
--- from 3 on it is no end
-pub no_end : (k m i : ℕ) → 3 ≤ k → on (record { node = none; place = 0 }) ≡ stand_by k m i
-no_end zero m i l = absurd (omega arith)
-no_end (suc zero) m i l = absurd (omega arith)
-no_end (suc (suc zero)) m i l = absurd (omega arith)
-no_end (suc (suc (suc k))) m i l = refl
-
--- a refused step leaves the words, another writes the cursor
-pub step_kept : (r : Picked) (c : Cursor) (u : List ℕ) → 2 < (numbers_of r.answer).number → u ≡ step_words r c u
-step_kept r c u l = rw (lt-ltb 2 (numbers_of r.answer).number l) refl
-
-pub step_moved : (r : Picked) (c : Cursor) (u v : List ℕ) → (numbers_of r.answer).number ≤ 2 → v ≡ cursor_words c → v ≡ step_words r c u
-step_moved r c u v l e = rw (le-ltb 2 (numbers_of r.answer).number l) e
-
--- the step of a cursor that was read, and its words
-pub stepped_on : (P : Cursor → Cursor → Picked → Type 0) (u u' : List ℕ) (d : code.Cursor) (m : Moved) {r : Picked} → cursor_of d ≡ cursor_by u → P (cursor_of d) (cursor_of m.cursor) m.found → r ≡ m.found → u' ≡ step_words m.found (cursor_of m.cursor) u → Steps P u u' r
-stepped_on P u u' d m e x q v = record {
-  cursor = cursor_of m.cursor;
-  given = subst (P (cursor_by u) (cursor_of m.cursor)) (sym q) (subst (λ (c : Cursor). P c (cursor_of m.cursor) m.found) e x);
-  written = v ∙ ap (λ (p : Picked). step_words p (cursor_of m.cursor) u) (sym q);
-}
+-- the refused step of a cursor d that was read from the words u
+pub step_refused : (P : Cursor → Cursor → Picked → Type 0) (u : List ℕ) (d c : Cursor) → d ≡ cursor_by u → (r : Refused) → P d c (said_picked (Err r)) → Steps P u u (said_picked (Err r))
+step_refused P u d c e r x = record { cursor = c; given = subst (λ (b : Cursor). P b c (said_picked (Err r))) e x; written = step_kept r c u }

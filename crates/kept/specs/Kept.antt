@@ -1,11 +1,15 @@
 -- A cursor as four words, and what a call leaves in them.
 -- Assumes nothing.
-use Rattle.std.specs.Prelude.{ℕ, zero, suc, ◌≡◌, cond, List, [], ◌∷◌, ltb, length, get_or}
+use Rattle.std.specs.Prelude.{ℕ, zero, suc, ◌≡◌, cond, List, [], ◌∷◌, ltb, length, get_or, Result, Ok, Err}
 use Rattle.model.specs.declared.Answer.TheVariants.{BadRange}
+use Rattle.model.specs.declared.Refused.{Refused}
+use Rattle.model.specs.declared.Refused.TheVariants.{BadSize}
 use Rattle.model.specs.declared.Picked.{Picked}
 use Rattle.model.specs.Layout.{none}
 use Rattle.model.specs.Answer.{numbers_of}
 use Rattle.model.specs.Cursor.{Stand, before, on, past, Cursor}
+use Rattle.cursor.specs.declared.Cursor as code
+use Rattle.cursor.specs.Cursors.{cursor_of}
 use Rattle.model.specs.Promise.{Refusal, Ends, bad_size, bad_arena}
 
 -- where it stands: 0 before the first pair, 1 on a pair, 2 past the last. Any other number is no end, and such a place holds no pair
@@ -17,6 +21,11 @@ stand_by (suc (suc (suc k))) m i = on (record { node = none; place = 0 })
 
 abbrev pub cursor_by : List ℕ → Cursor
 cursor_by u = record { changes = get_or u 0 0; stand = stand_by (get_or u 1 0) (get_or u 2 0) (get_or u 3 0) }
+
+-- the cursor of the words, if they are four
+abbrev pub ReadBy : List ℕ → Result code.Cursor Refused → Type 0
+ReadBy u (Ok c) = (length u ≡ 4) × (cursor_of c ≡ cursor_by u)
+ReadBy u (Err r) = (length u ≡ 4 → ⊥) × (r ≡ BadSize)
 
 -- at an end node and place are written 0
 abbrev pub stand_words : ℕ → Stand → List ℕ

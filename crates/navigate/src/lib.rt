@@ -33,6 +33,7 @@ pub fn next_kv(a: &[u64], from: Handle) -> Option<Handle>
 }
 
 // The pair left of a leaf edge, in its leaf or above.
+// Stays beside next_kv: the Rust's names.
 pub fn next_back_kv(a: &[u64], from: Handle) -> Option<Handle>
     requires { In a.now (λ s. EdgeAt s from) }
     ensures { (s : State) → Holds a.now s → (y : EdgeAt s from) → result ≡ stepped (back_kv y.way) }
@@ -68,6 +69,7 @@ pub fn next_leaf_edge(a: &[u64], kv: Handle) -> Handle
 }
 
 // The leaf edge left of a pair: below its left edge, the last edge at each level.
+// Stays beside next_leaf_edge: the Rust's names.
 pub fn next_back_leaf_edge(a: &[u64], kv: Handle) -> Handle
     requires { In a.now (λ s. KvAt s kv) }
     ensures { (s : State) → Holds a.now s → (y : KvAt s kv) → result ≡ leaf_edge (back_edge y.ctx y.no y.left y.hole y.item y.right) }

@@ -59,6 +59,7 @@ pub fn passed(a: &[u64], start: SearchBound) -> u64
 }
 
 // The start bound that admits just what an end bound does not.
+// Stays a match: no plainer as a conversion, which goes from one type to another.
 fn beyond(end: SearchBound) -> SearchBound
     ensures { result ≡ beyond end }
 {

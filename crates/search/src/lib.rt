@@ -47,6 +47,7 @@ pub struct Parting {
 }
 
 // Down from the root. Of a node, each further cache line is asked for before its keys are scanned; the answer does not depend on what they hold.
+// Stays a labelled loop over the levels: a rule of the project (docs/DECISIONS.md 3, 53).
 pub fn search_tree(a: &[u64], key: u64) -> SearchResult
     requires { WellFormed a.now }
     ensures { (s : State) → Holds a.now s → result ≡ spotted (model.search key s.whole) }
@@ -91,6 +92,7 @@ fn spread(a: &[u64], n: NodeNo) -> u64
 
 // The highest node where the lower edge is smaller than the upper one, or the leaf edge where they coincide. The children's bounds
 // replace the range on the way down.
+// Stays a loop: no plainer, since behind a `for` over the levels the same would stand once more for the leaf.
 pub fn search_tree_for_bifurcation(a: &[u64], range: Range) -> Result<Parting, Handle>
     requires { WellFormed a.now }
     ensures { (s : State) → Holds a.now s → result ≡ forked (fork_of range s.whole) }
@@ -136,8 +138,8 @@ pub fn find_key_index(keys: &[u64], key: u64, start: Place) -> IndexResult
     halve(keys, key, start, keys[n - 1])
 }
 
-// Stays a scan of its own: with std's binary_search in its place a get took 1.6 times as long, with partition_point 1.9 times.
-// The same of keys that are there: halves them until one or two are left. Until a key is met that is not smaller, any of them stands for it.
+// The same where there are keys: halves them until one or two are left. Until a key is met that is not smaller, any of them stands for it.
+// Stays a scan of its own: too slow, since with std's binary_search in its place a get took 1.6 times as long, with partition_point 1.9 times.
 #[inline]
 fn halve(keys: &[u64], key: u64, start: Place, any: u64) -> IndexResult
     requires { Among any start.0 keys.now × Rises keys.now }
@@ -195,6 +197,7 @@ pub fn find_lower_bound_index(keys: &[u64], bound: SearchBound) -> (Place, Searc
 }
 
 // The same of an end bound, from a place on.
+// Stays beside find_lower_bound_index: the Rust's names, and its cases.
 pub fn find_upper_bound_index(
     keys: &[u64],
     bound: SearchBound,

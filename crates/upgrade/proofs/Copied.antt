@@ -1,18 +1,13 @@
 -- The words copied, node by node; and what they hold.
 -- Assumes nothing.
-use Prim.Native.Nat.{ℕ, zero, suc, ◌+◌, ◌-◌, ◌≤◌, ◌<◌}
-use native.Mathlib.Numerals.{add-one}
-use native.Mathlib.Omega.{arith}
-use mathlib.Core.Path.{◌≡◌, refl, sym, ap, ap₂, ◌∙◌}
-use mathlib.Core.List.{List, [], ◌∷◌, ◌++◌, append_assoc, append-nil}
-use lib.ListN.{length, take, drop, get_or, set, length-append, length-take, length-drop, drop_of_length-le}
+use Rattle.std.proofs.Common.{ℕ, zero, suc, ◌+◌, ◌-◌, ◌≤◌, ◌<◌, add-one, arith, ◌≡◌, refl, sym, ap, ap₂, ◌∙◌, List, [], ◌∷◌, ◌++◌, append_assoc, append-nil, length, take, drop, get_or, set, length-append, length-take, length-drop, drop_of_length-le, take_all, drop-cons, length-take-le}
 use Rattle.model.specs.Lists.{part}
 use Rattle.model.specs.declared.Layout.TheVariants.{Format1}
 use Rattle.model.specs.Layout.{header_size, node_size, total_word, base_by, base}
 use Rattle.slices.specs.Words.{splice}
 use Rattle.slices.proofs.Laws.{take_on, lent, lent_out, splice_length}
 use Rattle.upgrade.specs.Copies.{copies}
-use lib.Seq.{take_all, drop-cons, set_at, length-take-le}
+use lib.Seq.{set_at}
 
 -- ---- a node: its words and a count of 0
 

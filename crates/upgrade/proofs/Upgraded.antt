@@ -1,10 +1,7 @@
 -- What the words copied are: the source's nodes with no counts; and once they are counted, the source's state in format 2.
 -- Assumes nothing.
-use Prim.Native.Nat.{ℕ, zero, suc, ◌+◌, ◌≤◌, ◌<◌}
-use native.Mathlib.Omega.{arith}
-use mathlib.Core.Path.{◌≡◌, refl, sym, ap, ap₂, ◌∙◌, subst}
-use mathlib.Core.List.{List, [], ◌∷◌, ◌++◌}
-use lib.ListN.{length, take, get_or, set, length-map, length-set, length-take}
+use Rattle.std.proofs.Common.{ℕ, zero, suc, ◌+◌, ◌≤◌, ◌<◌, arith, ◌≡◌, refl, sym, ap, ap₂, ◌∙◌, subst, List, [], ◌∷◌, ◌++◌, length, take, get_or, set, length-set, length-take}
+use lib.ListN.{length-map}
 use Rattle.model.specs.Lists.{All, part}
 use Rattle.model.specs.declared.Layout.TheVariants.{Format1}
 use Rattle.model.specs.Layout.{header_size, total_word, largest_count, format_number, format_word, count_word, root_word, height_word, header, base_by, SizedBy, node_words_by, node_words, cells_by, cells, arena_by, NodeVal, nth, Small, ArenaBy, Arena}

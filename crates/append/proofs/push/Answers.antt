@@ -6,8 +6,8 @@ use Rattle.append.proofs.push.Goals as goal
 pub len-n-requires : goal.len-n-requires
 len-n-requires c = (last c.requires.load).inside
 
-pub push_on-last-requires : goal.push_on-last-requires
-push_on-last-requires c = (c.requires, c.len-n.ensures)
+pub push_on-requires : goal.push_on-requires
+push_on-requires c = (c.requires, c.len-n.ensures)
 
 pub returns : goal.returns
-returns c = λ g l o room. (c.push_on-last.ensures g l o room).0
+returns c = λ g l o room. (c.push_on.ensures g l o room).0

@@ -1,6 +1,6 @@
 -- `checker::check` meets its contract.
 -- Assumes nothing.
-use mathlib.Core.Path.{refl}
+use Rattle.std.proofs.Common.{refl}
 use Rattle.model.specs.State.{check}
 use Rattle.model.proofs.Ends.{call_refused, call_done, stays}
 use Rattle.inspect.proofs.Decisions.{decided, refuted}

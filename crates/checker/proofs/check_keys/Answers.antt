@@ -1,7 +1,6 @@
 -- `checker::check_keys` meets its contract.
 -- Assumes nothing.
-use native.Mathlib.Omega.{arith}
-use Rattle.std.proofs.Common.{◌≡◌, None, Some}
+use Rattle.std.proofs.Common.{arith, ◌≡◌, None, Some}
 use Rattle.checker.proofs.Nodes.{leaf_none, leaf_gap, leaf_key, leaf_refused}
 use Rattle.checker.proofs.check_keys.Goals as goal
 

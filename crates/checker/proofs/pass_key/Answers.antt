@@ -1,7 +1,6 @@
 -- `checker::pass_key` meets its contract.
 -- Assumes nothing.
-use native.Mathlib.Omega.{arith}
-use mathlib.Core.Path.{refl}
+use Rattle.std.proofs.Common.{arith, refl}
 use Rattle.inspect.proofs.Decisions.{decided, refuted}
 use Rattle.checker.specs.Walks.{Rises, last_of}
 use Rattle.checker.proofs.Tasks.{walk_is}

@@ -1,8 +1,6 @@
 -- `inspect::chain` meets its contract: the whole is a chain exactly where what is left of it is.
 -- Assumes nothing.
-use native.Mathlib.Omega.{arith}
-use Rattle.std.proofs.Common.{◌≡◌, ◌-◌}
-use lib.Dec.{eqb}
+use Rattle.std.proofs.Common.{arith, ◌≡◌, ◌-◌, eqb}
 use Rattle.model.specs.Layout.{none}
 use Rattle.model.specs.Shape.{OwnFreeBy, ChainBy}
 use Rattle.inspect.proofs.Decisions.{decided, refuted, decides_as, equal}

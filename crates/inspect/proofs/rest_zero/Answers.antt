@@ -1,14 +1,6 @@
 -- `inspect::rest_zero` meets its contract: the words for pairs that are not in use are 0 exactly when all of them ored are.
 -- Assumes nothing.
-use Prim.Native.Nat.{ℕ, ◌≤◌, ◌<◌, ◌+◌}
-use native.Mathlib.Nat.{eq-or-lt_of_le}
-use native.Mathlib.Omega.{arith}
-use mathlib.Core.Path.{◌≡◌, sym, ◌∙◌}
-use mathlib.Core.Logic.{⊎_elim}
-use lib.Bits.{bit_or}
-use lib.Dec.{eqb}
-use lib.ListN.{get_or}
-use mathlib.Core.List.{List}
+use Rattle.std.proofs.Common.{ℕ, ◌≤◌, ◌<◌, ◌+◌, eq-or-lt_of_le, arith, ◌≡◌, sym, ◌∙◌, ⊎_elim, bit_or, eqb, get_or, List}
 use Rattle.model.specs.Layout.{most, keys_word, values_word}
 use Rattle.inspect.proofs.Words.{or_left, or_right, or_both, rest_bare, bare_rest}
 use Rattle.inspect.proofs.Decisions.{decides_as, equal, apart}

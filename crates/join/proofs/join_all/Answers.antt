@@ -1,6 +1,6 @@
 use Prim.Native.Nat.{◌*◌, ◌-◌, ◌≤◌, ◌<◌}
 use native.Mathlib.Omega.{arith}
-use mathlib.Core.Path.{◌≡◌, refl, sym, ap, ◌∙◌, subst}
+use mathlib.Core.Path.{◌≡◌, refl, sym, ap, ap₂, ◌∙◌, subst}
 use mathlib.Core.List.{List, []}
 use lib.ListN.{length, take}
 use Rattle.model.specs.Lists.{All}
@@ -12,11 +12,12 @@ use Rattle.model.specs.Join.{joined_run}
 use Rattle.model.specs.Words.{words_of}
 use Rattle.model.specs.Promise.{Holds, pair_words}
 use Rattle.model.proofs.Forward.{forward}
-use Rattle.model.proofs.Header.{seen_is, mark_is}
+use Rattle.model.proofs.Header.{stored_mark_is}
 use Rattle.loading.proofs.Runs.{pairs_back}
 use Rattle.merging.proofs.Merges.{run_few, pairs_few}
+use Rattle.header.specs.Headers.{marked}
 use Rattle.join.specs.Joins.{Anew}
-use Rattle.join.proofs.Joining.{run_there, run_words, anew_empty, emptied_is, anew_joined, joined_covers, higher_seen, higher_mark}
+use Rattle.join.proofs.Joining.{run_there, run_words, anew_empty, emptied_is, anew_joined, joined_covers, higher_marked}
 use Rattle.join.proofs.join_all.Goals as goal
 use Rattle.join.proofs.join_all.Goals.{After-merge_into-words}
 
@@ -60,8 +61,10 @@ load_anew-requires-2 c = let x = c in record { count = _; anew = anew_empty (for
 
 pub returns : goal.returns
 returns c = λ s t h g.
-    let m = (goal.at.returns c).After-merge_into-words in (
-      c.load_anew.ensures s.size (higher s.mark t.mark) (anew m h g) (covers m h g) (c.larger-most_seen.ensures ∙ higher_seen h g) (c.larger-most.ensures ∙ higher_mark h g) ∙ ap (λ (ps : List Pair). words_of (loaded_with (higher s.mark t.mark) s.size ps)) (pairs_are m h g),
-      c.load_anew-2.ensures t.size t.mark (anew_empty g [] refl) tt (seen_is g) (mark_is g) ∙ ap words_of (emptied_is t),
+    let m = (goal.at.returns c).After-merge_into-words in
+    let b = c.stored_mark-mark.ensures ∙ stored_mark_is g in
+    let e : marked c.max-most.result ≡ higher s.mark t.mark = ap marked c.max-most.ensures ∙ higher_marked c.stored_mark.result c.stored_mark-mark.result ∙ ap₂ higher (c.stored_mark.ensures ∙ stored_mark_is h) b in (
+      rw e at (c.load_anew.ensures s.size (anew m h g) (rw e (covers m h g))) ∙ ap (λ (ps : List Pair). words_of (loaded_with (higher s.mark t.mark) s.size ps)) (pairs_are m h g),
+      rw b at (c.load_anew-2.ensures t.size (anew_empty g [] refl) tt) ∙ ap words_of (emptied_is t),
       (m.merge_into-words.ensures s t h g).0,
     )

@@ -1,14 +1,14 @@
-use native.Mathlib.Omega.{arith}
-use mathlib.Core.Path.{ap}
+use Rattle.std.proofs.Common.{◌∙◌, ap, arith}
+use borrow.Author.Tests.{le-ltb}
 use Rattle.model.specs.Room.{nodes_for}
-use Rattle.join.proofs.Joining.{count_of, enough}
+use Rattle.inspect.proofs.Decisions.{less}
+use Rattle.join.proofs.Joining.{count_of, enough, no_less}
 use Rattle.join.proofs.lacks.Goals as goal
 
 pub returns-then-nodes_for-count : goal.returns-then-nodes_for-count
-returns-then-nodes_for-count c = λ s t h g l. let x = c in omega (arith, l, enough h g x.args.pairs x.requires.2 (omega (arith, c.if-nodes_for-count.true, c.nodes_for.ensures)))
+returns-then-nodes_for-count c = λ s t h g. rw (c.count-count.ensures ∙ count_of h, c.nodes_for-then-nodes_for-count.ensures ∙ ap nodes_for (c.merge_count.ensures s t h g)) (less s.size _)
 
-pub returns-then-nodes_for-count-2 : goal.returns-then-nodes_for-count-2
-returns-then-nodes_for-count-2 c = λ s t h g l. omega (arith, l, c.if-nodes_for-count-2.true, c.nodes_for-2.ensures, ap nodes_for (c.merge_count.ensures s t h g), count_of h)
-
-pub returns : goal.returns
-returns c = λ s t h g. omega (arith, c.if-nodes_for-count-2.false, c.nodes_for-2.ensures, ap nodes_for (c.merge_count.ensures s t h g), count_of h)
+pub returns-else-nodes_for-count : goal.returns-else-nodes_for-count
+returns-else-nodes_for-count c = λ s t h g.
+    let l = enough h g c.args.pairs c.requires.2 (omega (arith, c.if-nodes_for-count.false, c.nodes_for.ensures, c.count-count.ensures)) in
+    no_less (le-ltb _ _ c.if-nodes_for-count.false) (λ m. omega (arith, l, m))

@@ -10,10 +10,10 @@ use Rattle.join.proofs.load_anew.Goals.{After-write_all}
 
 -- what is formatted may be loaded
 ready : (c : After-write_all) (n : ℕ) → Anew n c.args.a.now c.args.run.now → Loads n c.write_all.new.a c.args.run.now
-ready c n y = to_load y (c.write_all.ensures ∙ ap (λ (i : ℕ). words_of (formatted i)) y.count_is)
+ready c n y = to_load y (c.write_all.ensures ∙ ap (λ (i : ℕ). words_of (formatted i)) (c.count.ensures ∙ y.count_is))
 
 pub load_marked-requires : goal.load_marked-requires
 load_marked-requires c = let x = c.requires in record { count = x.count; loads = ready (goal.at.load_marked-requires c).After-write_all x.count x.anew }
 
 pub returns : goal.returns
-returns c = λ n m y covers seen mark. c.load_marked.ensures n m (ready (goal.at.returns c).After-write_all n y) covers seen mark
+returns c = λ n y covers. c.load_marked.ensures n (ready (goal.at.returns c).After-write_all n y) covers

@@ -1,13 +1,15 @@
 -- `kept::keep_next` meets its contract.
 -- Assumes nothing.
-use native.Mathlib.Omega.{arith}
-use mathlib.Core.Path.{refl}
-use mathlib.Core.Logic.{inl, inr}
-use Rattle.kept.proofs.Four.{stepped_on}
+use Rattle.std.proofs.Common.{inr}
+use Rattle.std.proofs.lemmas.Result.{err_from_is_err_and}
+use Rattle.model.specs.Public.{Promised}
+use Rattle.model.specs.Public as promise
+use Rattle.cursor.specs.Cursors.{cursor_of}
+use Rattle.kept.proofs.Four.{step_refused}
 use Rattle.kept.proofs.keep_next.Goals as goal
 
-pub returns-then-words-ne-WORDS : goal.returns-then-words-ne-WORDS
-returns-then-words-ne-WORDS c = inl ((λ e. omega (arith, e, c.if-words-ne-WORDS.true)), (refl, c.refused.ensures))
-
-pub returns : goal.returns
-returns c = let k = c.keep_step in let m = c.next in inr ((λ b. b (omega (arith, c.if-words-ne-WORDS.false))), stepped_on _ _ _ c.read-c.result m.result c.read-c.ensures m.ensures k.ensures.0 k.ensures.1)
+pub returns-in_err-found : goal.returns-in_err-found
+returns-in_err-found c =
+    let p = err_from_is_err_and c.from_residual-in_err-found.result c.from_residual-in_err-found.ensures.1 in
+    let k = c.in_ok-cursor in
+    rw (p.1, p.2) (inr ((λ b. b k.ensures.0), step_refused (λ d. Promised (promise.next c.args.changes d) c.args.a.now c.args.a.now) c.args.words.now (cursor_of k.cursor) (cursor_of c.next.new.self) k.ensures.1 _ c.in_err-found.ensures))

@@ -1,7 +1,6 @@
 -- `upgrade::copy_all` meets its contract.
 -- Assumes nothing.
-use native.Mathlib.Omega.{arith}
-use mathlib.Core.Path.{◌∙◌}
+use Rattle.std.proofs.Common.{arith, ◌∙◌}
 use Rattle.upgrade.proofs.Upgraded.{all_copied}
 use Rattle.upgrade.proofs.copy_all.Goals as goal
 

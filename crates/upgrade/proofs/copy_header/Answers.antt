@@ -1,9 +1,6 @@
 -- `upgrade::copy_header` meets its contract.
 -- Assumes nothing.
-use Prim.Native.Nat.{ℕ}
-use mathlib.Core.Path.{ap}
-use mathlib.Core.List.{List}
-use lib.ListN.{set}
+use Rattle.std.proofs.Common.{ℕ, ap, List, set}
 use Rattle.model.specs.Layout.{format_word, format_number}
 use Rattle.upgrade.proofs.copy_header.Goals as goal
 

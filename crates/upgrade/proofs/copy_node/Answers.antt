@@ -1,14 +1,8 @@
 -- `upgrade::copy_node` meets its contract.
 -- Assumes nothing.
-use Prim.Native.Nat.{ℕ}
-use mathlib.Core.Path.{ap, ◌∙◌}
-use mathlib.Core.List.{List, ◌++◌}
-use lib.ListN.{set, drop}
+use Rattle.std.proofs.Common.{ℕ, ap, ◌∙◌, List, ◌++◌, set, drop, arith, sym, length-take-le}
 use Rattle.model.specs.Layout.{total_word}
 use Rattle.upgrade.proofs.Copied.{node_words_lem}
-use native.Mathlib.Omega.{arith}
-use mathlib.Core.Path.{sym}
-use lib.Seq.{length-take-le}
 use Rattle.upgrade.proofs.copy_node.Goals as goal
 
 pub slice_bounds-copy_from_slice-end-2 : goal.slice_bounds-copy_from_slice-end-2

@@ -1,9 +1,6 @@
 -- `upgrade::copy_nodes` meets its contract.
 -- Assumes nothing.
-use Prim.Native.Nat.{◌+◌, ◌-◌, ◌<◌}
-use native.Mathlib.Omega.{arith}
-use mathlib.Core.Path.{◌≡◌, refl, ◌∙◌}
-use lib.ListN.{length}
+use Rattle.std.proofs.Common.{◌+◌, ◌-◌, ◌<◌, arith, ◌≡◌, refl, ◌∙◌, length}
 use Rattle.model.specs.Layout.{node_size, total_word, base}
 use Rattle.upgrade.proofs.Copied.{node_long, node_turn, nodes_begin, nodes_done}
 use Rattle.upgrade.proofs.copy_nodes.Goals as goal

@@ -1,8 +1,5 @@
 -- Assumes nothing.
-use Prim.Native.Nat.{◌-◌}
-use mathlib.Core.Path.{◌≡◌}
-use mathlib.Core.List.{◌++◌}
-use lib.ListN.{length, take}
+use Rattle.std.proofs.Common.{◌-◌, ◌≡◌, ◌++◌, length, take}
 use Rattle.model.specs.Layout.{header_size, base}
 use Rattle.upgrade.specs.Copies.{copies}
 use Rattle.upgrade.proofs.copy_nodes.Given as goal

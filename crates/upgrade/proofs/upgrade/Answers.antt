@@ -1,8 +1,6 @@
 -- `upgrade::upgrade` meets its contract.
 -- Assumes nothing.
-use native.Mathlib.Omega.{arith}
-use mathlib.Core.Path.{◌≡◌, sym, ap, ◌∙◌}
-use lib.ListN.{length}
+use Rattle.std.proofs.Common.{arith, ◌≡◌, sym, ap, ◌∙◌, length}
 use Rattle.model.specs.declared.Layout.TheVariants.{Format1}
 use Rattle.model.specs.Layout.{base, header, count_word}
 use Rattle.model.specs.WellFormed.{WellFormedBy}
