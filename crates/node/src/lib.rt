@@ -1,7 +1,7 @@
 // Nodes of the arena: the two kinds of number, the places of a node's words, reading, and which pair of a full node rises.
 #![tactic(auto)]
 
-ghost use Rattle.std.specs.Prelude.{◌≡◌, ◌+◌, ◌<◌, ◌≤◌, max};
+ghost use Rattle.std.specs.Prelude.{◌≡◌, ◌+◌, ◌<◌, ◌≤◌};
 ghost use Rattle.model.specs.Lists.{part};
 ghost use Rattle.model.specs.Layout.{base, most, node_size, state_word, length_word, parent_word, place_word, keys_word, values_word, edges_word, total_word, word_at};
 ghost use Rattle.model.specs.Insert as model;
@@ -57,16 +57,6 @@ pub struct Place(pub usize);
 // A key and its value.
 #[derive(Clone, Copy)]
 pub struct Kv(pub u64, pub u64);
-
-// The larger of two words.
-pub fn larger(x: u64, y: u64) -> u64
-    ensures { result ≡ max x y }
-{
-    if x < y {
-        return y;
-    }
-    x
-}
 
 // Stays functions of the words and a number: a view of a node would borrow the words, be made anew after each write, and ask `Within` there.
 
