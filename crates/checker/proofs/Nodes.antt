@@ -1,13 +1,14 @@
 -- Nodes as tasks: a node is its own words and then its edges, a level lower.
 -- Assumes nothing.
-use Rattle.std.proofs.Common.{Option, None, Some, ℕ, zero, suc, ◌+◌, ◌-◌, ◌≤◌, ◌<◌, sub-one, arith, eq-or-lt_of_le, ◌≡◌, refl, sym, ap, ◌∙◌, ⊎_elim, List, [], append-nil, length, length-append}
+use Rattle.std.proofs.Common.{Bool, true, false, Option, None, Some, ℕ, zero, suc, ◌+◌, ◌-◌, ◌≤◌, ◌<◌, sub-one, arith, eq-or-lt_of_le, ◌≡◌, refl, sym, ap, ◌∙◌, ⊎_elim, List, [], append-nil, length, length-append}
 use Rattle.model.specs.Lists.{join_to, mix_to}
 use Rattle.model.specs.declared.Layout.{Layout}
 use Rattle.model.specs.Layout.{least, total_word, word_at_by}
 use Rattle.model.specs.WellFormed.{Reached, length_at_by, edge_at_by, key_at_by, reach_by, keys_in_by}
 use Rattle.model.proofs.Lists.{join_more}
 use Rattle.model.specs.Shape.{OwnBy, ShapeBy}
-use Rattle.inspect.specs.Tests.{LeadsBy}
+use Rattle.inspect.specs.Tests.{Decides, LeadsBy}
+use Rattle.inspect.proofs.Decisions.{decided, refuted}
 use Rattle.checker.specs.declared.Walk.{Walk}
 use Rattle.checker.specs.Walks.{Task, Rises, last_of, Said, key_task, keys_task, gap, child_of, node_task, children, nodes_to, edges_task}
 use Rattle.checker.proofs.Tasks.{both, counted_said, Told, walk_is, gap_said, then_said, same_said, steps, steps_none, edge_said, key_said, edge_refused, key_refused}
@@ -24,6 +25,10 @@ pub shape_own : (fm : Layout) (w : List ℕ) (count h fewest n p e : ℕ) → Sh
 unfolding ShapeBy
 shape_own fm w count zero fewest n p e s = s.0
 shape_own fm w count (suc h) fewest n p e s = s.0
+
+-- a node whose own words are wrong
+pub not_own : (fm : Layout) (w : List ℕ) (count : ℕ) (r : Reached) (b : Bool) → Decides b (OwnBy fm w count r) → b ≡ false → ShapeBy fm w count r.below r.fewest r.node r.parent r.place → ⊥
+not_own fm w count r b d e s = refuted b d e (shape_own fm w count r.below r.fewest r.node r.parent r.place s)
 
 -- an internal node's edges lead to nodes whose parent it is
 pub shape_leads : (fm : Layout) (w : List ℕ) (count h fewest n p e m : ℕ) → (h ≡ 0 → ⊥) → m ≡ length_at_by fm w n → ShapeBy fm w count h fewest n p e → (i : ℕ) → i < m + 1 → LeadsBy fm w count n i
@@ -90,9 +95,9 @@ module _ (fm : Layout) (w : List ℕ) (count h n : ℕ) where
 abbrev pub own_task : (fm : Layout) → List ℕ → ℕ → Reached → Task
 own_task fm w count r = record { holds = OwnBy fm w count r; keys = []; nodes = 1 }
 
-pub own_said : (fm : Layout) (w : List ℕ) (count : ℕ) (r : Reached) (u : Walk) → OwnBy fm w count r → 1 ≤ u.nodes → Said (own_task fm w count r) u (Some (record { nodes = u.nodes - 1; pairs = u.pairs; last = u.last }))
+pub own_said : (fm : Layout) (w : List ℕ) (count : ℕ) (r : Reached) (u : Walk) (b : Bool) → Decides b (OwnBy fm w count r) → b ≡ true → 1 ≤ u.nodes → Said (own_task fm w count r) u (Some (record { nodes = u.nodes - 1; pairs = u.pairs; last = u.last }))
 unfolding Rises last_of
-own_said fm w count r u o l = (record { holds = o; rises = tt; pairs = omega arith; nodes = l }, walk_is refl (omega arith) refl)
+own_said fm w count r u b d e l = (record { holds = decided b d e; rises = tt; pairs = omega arith; nodes = l }, walk_is refl (omega arith) refl)
 
 module _ (fm : Layout) (w : List ℕ) (count fewest n p e x : ℕ) (u v : Walk) (d q : Option Walk) where
   pub leaf_said : (h m : ℕ) → h ≡ 0 → m ≡ length_at_by fm w n → x ≡ word_at_by fm w n total_word → Said (own_task fm w count (record { below = h; fewest = fewest; node = n; parent = p; place = e })) u (Some v) → Said (keys_task fm w n m) v d

@@ -26,6 +26,7 @@ pub trait Format {
     ghost words_is: { WORDS ≡ node_size_by layout };
 }
 
+// The two formats as types; no value of them is made.
 pub struct Format1;
 
 pub struct Format2;

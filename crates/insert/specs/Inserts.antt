@@ -46,10 +46,19 @@ pub record Unsettled (w : List ℕ) (n : ℕ) (r : Option SplitResult) : Type 0 
   pub pair : Pair
   pub outcome : RawOutcome gap pair w r
 
--- a gap in an internal node
-pub record InnerGap (w : List ℕ) (node at child : ℕ) : Type 0 where
+-- the node to stand right of the new pair, as a number: none at a leaf; and the levels below its edge, k more than 1
+abbrev pub number : Option NodeNo → ℕ
+number None = 0
+number (Some c) = c.0
+
+abbrev pub level : Option NodeNo → ℕ → ℕ
+level None k = 0
+level (Some c) k = suc k
+
+-- a gap for such a node
+pub record GapAt (w : List ℕ) (node at : ℕ) (child : Option NodeNo) : Type 0 where
   pub height : ℕ
-  pub gap : Gap w (suc height) node at child
+  pub gap : Gap w (level child height) node at (number child)
 
 -- the climb to t, from a node that hangs nowhere
 pub record ClimbIn (w : List ℕ) (g : Rest) (r : SplitResult) (t : Grown) : Type 0 where

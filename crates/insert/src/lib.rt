@@ -9,11 +9,13 @@ ghost use Rattle.model.specs.State as model;
 ghost use Rattle.model.specs.WellFormed.{WellFormed};
 ghost use Rattle.model.specs.Promise.{Holds, Does};
 ghost use Rattle.model.specs.Answer.{said_former};
-ghost use Rattle.node.specs.Reading.{pair_of};
+ghost use Rattle.model.specs.Layout.{NodeVal, Arena};
+ghost use Rattle.node.specs.Reading.{Has, pair_of};
 ghost use Rattle.navigate.specs.Places.{In, EdgeAt};
 ghost use Rattle.standing.specs.Heads.{Rest, rest_of, ClosedIn};
+ghost use Rattle.growing.specs.Steps.{FitsAt, fit_at};
 ghost use Rattle.growing.specs.Climbs.{Gap, Climbing};
-ghost use Rattle.insert.specs.Inserts.{target_of, RawOutcome, Outcome, Unsettled, InnerGap, ClimbIn, AtRoot, Roomy, PutIn};
+ghost use Rattle.insert.specs.Inserts.{target_of, level, number, RawOutcome, Outcome, Unsettled, GapAt, ClimbIn, AtRoot, Roomy, PutIn};
 
 use internal::push_internal_level;
 use leaf::{SplitResult, replace_kv};
@@ -32,35 +34,39 @@ fn insertion_edge(insertion: LeftOrRight<Place>, left: NodeNo, right: NodeNo) ->
     }
 }
 
-// Puts a pair in at a leaf edge. A full leaf is split. Counts are left as they were.
-fn fit_leaf(a: &mut [u64], n: NodeNo, at: Place, kv: Kv) -> Option<SplitResult>
-    requires { Gap a.old 0 n.0 at.0 0 }
-    ensures { (s : Gap a.old 0 n.0 at.0 0) → RawOutcome s (pair_of kv) a.new result }
+// Puts a pair in where there is room: at a leaf edge, or at an edge of an internal node, with the node right of it.
+fn insert_fit(a: &mut [u64], n: NodeNo, at: Place, kv: Kv, child: Option<NodeNo>)
+    requires { (k : ℕ) × Has a.old (λ h ns. FitsAt (level child k) ns n.0 at.0 (number child)) }
+    ensures { (k : ℕ) (h : List ℕ) (ns : List NodeVal) → FitsAt (level child k) ns n.0 at.0 (number child) → Arena a.old h ns → Arena a.new h (fit_at (level child k) ns n.0 at.0 (pair_of kv) (number child)) }
 {
-    if len(a, n) < CAPACITY {
-        leaf::insert_fit(a, n, at, kv);
-        return None;
+    match child {
+        None => leaf::insert_fit(a, n, at, kv),
+        Some(right) => internal::insert_fit(a, n, at, kv, right),
     }
-    let point = splitpoint(at);
-    let split = leaf::split(a, n, point.middle);
-    let (half, i) = insertion_edge(point.insertion, n, split.right);
-    leaf::insert_fit(a, half, i, kv);
-    Some(split)
 }
 
-// Puts a pair in at an edge of an internal node, and the node right of it. A full node is split. Counts are left as they were.
-fn fit_internal(a: &mut [u64], n: NodeNo, at: Place, kv: Kv, child: NodeNo) -> Option<SplitResult>
-    requires { InnerGap a.old n.0 at.0 child.0 }
-    ensures { (h : ℕ) (s : Gap a.old (suc h) n.0 at.0 child.0) → RawOutcome s (pair_of kv) a.new result }
+// The same at any edge: a full node is split. Counts are left as they were.
+fn insert_or_split(
+    a: &mut [u64],
+    n: NodeNo,
+    at: Place,
+    kv: Kv,
+    child: Option<NodeNo>,
+) -> Option<SplitResult>
+    requires { GapAt a.old n.0 at.0 child }
+    ensures { (k : ℕ) (s : Gap a.old (level child k) n.0 at.0 (number child)) → RawOutcome s (pair_of kv) a.new result }
 {
     if len(a, n) < CAPACITY {
-        internal::insert_fit(a, n, at, kv, child);
+        insert_fit(a, n, at, kv, child);
         return None;
     }
     let point = splitpoint(at);
-    let split = internal::split(a, n, point.middle);
+    let split = match child {
+        None => leaf::split(a, n, point.middle),
+        Some(_) => internal::split(a, n, point.middle),
+    };
     let (half, i) = insertion_edge(point.insertion, n, split.right);
-    internal::insert_fit(a, half, i, kv, child);
+    insert_fit(a, half, i, kv, child);
     Some(split)
 }
 
@@ -75,22 +81,12 @@ fn settle_inserted(a: &mut [u64], n: NodeNo, split: Option<SplitResult>)
     settle(a, n);
 }
 
-// Puts a pair in at a leaf edge.
-fn insert_leaf(a: &mut [u64], n: NodeNo, at: Place, kv: Kv) -> Option<SplitResult>
-    requires { Gap a.old 0 n.0 at.0 0 }
-    ensures { (s : Gap a.old 0 n.0 at.0 0) → Outcome s (pair_of kv) a.new result }
+// The same, and counts set right.
+fn insert(a: &mut [u64], n: NodeNo, at: Place, kv: Kv, child: Option<NodeNo>) -> Option<SplitResult>
+    requires { GapAt a.old n.0 at.0 child }
+    ensures { (k : ℕ) (s : Gap a.old (level child k) n.0 at.0 (number child)) → Outcome s (pair_of kv) a.new result }
 {
-    let split = fit_leaf(a, n, at, kv);
-    settle_inserted(a, n, split);
-    split
-}
-
-// Puts a pair in at an edge of an internal node, and the node right of it.
-fn insert_internal(a: &mut [u64], n: NodeNo, at: Place, kv: Kv, child: NodeNo) -> Option<SplitResult>
-    requires { InnerGap a.old n.0 at.0 child.0 }
-    ensures { (h : ℕ) (s : Gap a.old (suc h) n.0 at.0 child.0) → Outcome s (pair_of kv) a.new result }
-{
-    let split = fit_internal(a, n, at, kv, child);
+    let split = insert_or_split(a, n, at, kv, child);
     settle_inserted(a, n, split);
     split
 }
@@ -111,14 +107,14 @@ pub fn insert_recursing(a: &mut [u64], edge: Handle, kv: Kv)
     ensures { (s : model.State) → Holds a.old s → (y : Roomy s edge) → ClosedIn a.new (rest_of s) (rise y.edge.way tt (pair_of kv) tt s.free) }
 {
     let mut node = edge.node;
-    let mut split = insert_leaf(a, node, edge.at, kv);
+    let mut split = insert(a, node, edge.at, kv, None);
     while let Some(up) = split {
         let Some((parent, idx)) = ascend(a, node) else {
             split_root(a, up);
             return;
         };
         node = parent;
-        split = insert_internal(a, node, idx, up.kv, up.right);
+        split = insert(a, node, idx, up.kv, Some(up.right));
     }
 }
 

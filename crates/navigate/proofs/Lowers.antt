@@ -25,16 +25,16 @@ pub record Lowering (z : Ctx zero) (s : State) (b : SearchBound) (n h : ℕ) : T
 
 module _ (z : Ctx zero) {w : List ℕ} {s : State} (o : Holds w s) (b : SearchBound) (n : ℕ) (ks : List ℕ) (q : ks ≡ part w (base n + keys_word) (word_at w n length_word)) (l : Place × SearchBound) (el : l ≡ edged (lower_edge b ks)) where
   -- the edge in the node of the tree
-  abbrev low_at : {h : ℕ} → At s n h → range.BoundEdge
+  abbrev pub low_at : {h : ℕ} → At s n h → range.BoundEdge
   low_at p = lower_edge b (keys_of p.tree.rest)
 
-  low_is : {h : ℕ} (p : At s n h) → l ≡ edged (low_at p)
+  pub low_is : {h : ℕ} (p : At s n h) → l ≡ edged (low_at p)
   low_is p = el ∙ ap (λ (x : List ℕ). edged (lower_edge b x)) (keys_are o p ks q)
 
-  low_inside : {h : ℕ} (p : At s n h) → (low_at p).at ≤ length p.tree.rest
+  pub low_inside : {h : ℕ} (p : At s n h) → (low_at p).at ≤ length p.tree.rest
   low_inside p = simp length-map at (lower_inside b (keys_of p.tree.rest))
 
-  rises : {h : ℕ} (p : At s n h) → Rising (flat_of (plug p.ctx p.tree))
+  pub rises : {h : ℕ} (p : At s n h) → Rising (flat_of (plug p.ctx p.tree))
   rises p = subst (λ (x : Whole). Rising (flat_of x)) (sym p.whole) o.sound.rising
 
   pub lowered : (h : ℕ) → Lowering z s b n h → h ≡ 0 → record { node = record { 0 = n }; height = 0; at = l.0 } ≡ leaf_edge z

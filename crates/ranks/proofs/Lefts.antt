@@ -3,25 +3,23 @@
 use Rattle.std.proofs.Common.{ℕ, zero, suc, ◌+◌, ◌*◌, ◌-◌, ◌≤◌, ◌<◌, sub-one, add-one, arith, ◌≡◌, refl, sym, ap, ap₂, ◌∙◌, subst, List, [], ◌∷◌, ◌++◌, lit<, length, length-append}
 use native.Mathlib.Decide.{dec_lt}
 use mathlib.Core.Option.{some}
-use lib.ListN.{length-map}
 use Rattle.model.specs.declared.SearchBound.{SearchBound}
 use Rattle.model.specs.Lists.{part}
 use Rattle.model.specs.Layout.{most, largest_count, base, pairs_word, word_at, length_word, keys_word, edges_word, total_word}
-use Rattle.model.specs.Tree.{Pair, Item, Tree, Ctx, Whole, plug, fill, flat, flats, flat_of, lefts, before, after}
+use Rattle.model.specs.Tree.{Pair, Item, Tree, Ctx, plug, fill, flat, flats, flat_of, lefts, before, after}
 use Rattle.model.specs.Search.{sink}
-use Rattle.model.specs.Range as range
 use Rattle.model.specs.Range.{open_at, lower_edge, keys_of}
-use Rattle.model.specs.Map.{Rising, nth}
+use Rattle.model.specs.Map.{nth}
 use Rattle.model.specs.State.{State, list}
 use Rattle.model.specs.Promise.{Holds}
 use Rattle.model.proofs.Plug.{flat_plug}
 use Rattle.model.proofs.Bounds.{few}
 use Rattle.model.proofs.Backward.{header_is, backward}
-use Rattle.model.proofs.Forks.{starts, hole_at, open_length, open_fill, lower_step, lower_inside}
+use Rattle.model.proofs.Forks.{starts, hole_at, open_length, open_fill, lower_step}
 use Rattle.model.proofs.Standing.{At, stands, below_at, short_at}
 use Rattle.node.specs.declared.Place.{Place}
 use Rattle.search.specs.Results.{edged}
-use Rattle.search.proofs.Descents.{keys_are}
+use Rattle.navigate.proofs.Lowers as lowers
 use Rattle.ranks.specs.Picks.{EdgeIn, NodeIn, Here, Onward, Picking}
 
 -- ---- the first edges of a node
@@ -104,26 +102,20 @@ pub record Sinking (z : Ctx zero) (s : State) (b : SearchBound) (n h sum : ℕ) 
   pub sum_is : sum ≡ length (before place.ctx)
 
 module _ (z : Ctx zero) {w : List ℕ} {s : State} (o : Holds w s) (b : SearchBound) (n sum : ℕ) (ks : List ℕ) (q : ks ≡ part w (base n + keys_word) (word_at w n length_word)) (l : Place × SearchBound) (el : l ≡ edged (lower_edge b ks)) where
-  abbrev low_at : {h : ℕ} → At s n h → range.BoundEdge
-  low_at p = lower_edge b (keys_of p.tree.rest)
+  low_is : {h : ℕ} (p : At s n h) → l ≡ edged (lower_edge b (keys_of p.tree.rest))
+  low_is p = lowers.low_is z o b n ks q l el p
 
-  low_is : {h : ℕ} (p : At s n h) → l ≡ edged (low_at p)
-  low_is p = el ∙ ap (λ (x : List ℕ). edged (lower_edge b x)) (keys_are o p ks q)
-
-  low_in : {h : ℕ} (p : At s n h) → (low_at p).at ≤ length p.tree.rest
-  low_in p = simp length-map at (lower_inside b (keys_of p.tree.rest))
+  low_in : {h : ℕ} (p : At s n h) → (lower_edge b (keys_of p.tree.rest)).at ≤ length p.tree.rest
+  low_in p = lowers.low_inside z o b n ks q l el p
 
   pub low_inside : {h : ℕ} (p : At s n h) → l.0.0 ≤ length p.tree.rest
   low_inside p = rw (low_is p) (low_in p)
 
-  rises : {h : ℕ} (p : At s n h) → Rising (flat_of (plug p.ctx p.tree))
-  rises p = subst (λ (x : Whole). Rising (flat_of x)) (sym p.whole) o.sound.rising
-
   pub sunk : (h : ℕ) → Sinking z s b n h sum → h ≡ 0 → sum + l.0.0 ≡ length (before z)
   sunk zero y e =
       let p = y.place in
-      let i = (low_at p).at in
-      rw (low_is p) (sym (ap (λ (c : Ctx zero). length (before c)) (y.same ∙ lower_step b p.ctx p.tree (rises p)) ∙ (length-append (before p.ctx) (lefts (flat 0) (open_at i [] p.tree.first p.tree.rest).left) ∙ omega (arith, y.sum_is, left_is 0 p.tree i (low_in p), gaps_none i p.tree.first p.tree.rest))))
+      let i = (lower_edge b (keys_of p.tree.rest)).at in
+      rw (low_is p) (sym (ap (λ (c : Ctx zero). length (before c)) (y.same ∙ lower_step b p.ctx p.tree (lowers.rises z o b n ks q l el p)) ∙ (length-append (before p.ctx) (lefts (flat 0) (open_at i [] p.tree.first p.tree.rest).left) ∙ omega (arith, y.sum_is, left_is 0 p.tree i (low_in p), gaps_none i p.tree.first p.tree.rest))))
   sunk (suc h) y e = absurd (omega arith)
 
   pub sinking_on : (h : ℕ) → Sinking z s b n h sum → (h ≡ 0 → ⊥) → (x : ℕ) → ((k : ℕ) (p : At s n (suc k)) → l.0.0 ≤ length p.tree.rest → x ≡ length (lefts (flat (suc k)) (open_at l.0.0 [] p.tree.first p.tree.rest).left))
@@ -132,11 +124,11 @@ module _ (z : Ctx zero) {w : List ℕ} {s : State} (o : Holds w s) (b : SearchBo
   sinking_on (suc h) y e x ex m em =
       let p = y.place in
       let a = low_is p in
-      let i = (low_at p).at in
+      let i = (lower_edge b (keys_of p.tree.rest)).at in
       let k : x ≡ length (lefts (flat (suc h)) (open_at i [] p.tree.first p.tree.rest).left) = rw a at (ex h p (low_inside p)) in
       rw (sub-one (suc h), a) (record {
         place = below_at o p i m (low_in p) (rw a at em);
-        same = y.same ∙ lower_step b p.ctx p.tree (rises p);
+        same = y.same ∙ lower_step b p.ctx p.tree (lowers.rises z o b n ks q l el p);
         sum_is = sym (length-append (before p.ctx) (lefts (flat (suc h)) (open_at i [] p.tree.first p.tree.rest).left) ∙ omega (arith, y.sum_is, k));
       })
 

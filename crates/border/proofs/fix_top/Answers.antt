@@ -1,7 +1,7 @@
 -- `border::fix_top` meets its contract: while the root is internal and empty, what the tops come to stays the same.
 -- Assumes nothing.
 use Prim.Native.Nat.{suc}
-use mathlib.Core.Path.{◌≡◌, refl, ◌∙◌, subst}
+use mathlib.Core.Path.{◌≡◌, ◌∙◌, subst}
 use native.Mathlib.Omega.{arith}
 use lib.ListN.{length}
 use Rattle.model.specs.Nodes.{Grown}
@@ -11,9 +11,6 @@ use Rattle.border.proofs.Tops.{root_known, height_word_is, rooted_long, stays, s
 use Rattle.border.proofs.fix_top.Goals as goal
 use Rattle.border.proofs.fix_top.Goals.{After-slice_known-in-loop-a-1}
 
-pub loop-a-init : goal.loop-a-init
-loop-a-init c = (c.requires, refl, λ g t x. (t, x, refl))
-
 pub height-requires : goal.height-requires
 height-requires c = omega (arith, rooted_long c.loop-a.invariant.0.rooted)
 
@@ -22,9 +19,6 @@ root-root-requires c = omega (arith, rooted_long c.loop-a.invariant.0.rooted)
 
 pub len-requires : goal.len-requires
 len-requires c = (root_known c.loop-a.invariant.0.rooted _ c.root-root.ensures).0
-
-pub shape_of-a-then-len-gt0 : goal.shape_of-a-then-len-gt0
-shape_of-a-then-len-gt0 c = c.loop-a.invariant.1
 
 pub returns-then-len-gt0 : goal.returns-then-len-gt0
 returns-then-len-gt0 c =
@@ -51,9 +45,6 @@ pub loop-a-preserved : goal.loop-a-preserved
 loop-a-preserved c =
     let f = c.loop-a.invariant in
     (record { rest = _; end = _; rooted = (on c _ _ f.0.rooted).1 }, omega (arith, f.1), λ g t x. let u = f.2 g t x in let y = on c g u.0 u.1 in (y.0, y.1, y.3 ∙ u.2))
-
-pub shape_of-a : goal.shape_of-a
-shape_of-a c = c.loop-a.invariant.1
 
 pub returns : goal.returns
 returns c =

@@ -2,8 +2,8 @@
 -- Assumes nothing.
 use Rattle.std.proofs.Common.{arith, refl, None, Some}
 use Rattle.inspect.specs.Tests.{reached}
-use Rattle.inspect.proofs.Decisions.{decided, refuted}
-use Rattle.checker.proofs.Nodes.{some_nodes, shape_own, shape_leads, edges_none, edge_next, key_next, edge_stop_to, key_stop, own_said, leaf_said, inner_said}
+use Rattle.inspect.proofs.Decisions.{refuted}
+use Rattle.checker.proofs.Nodes.{some_nodes, not_own, shape_leads, edges_none, edge_next, key_next, edge_stop_to, key_stop, own_said, leaf_said, inner_said}
 use Rattle.checker.proofs.+check_edges_check_node.Goals as goal
 use Rattle.checker.proofs.+check_edges_check_node.Goals.{check_node-then-before-eq0-via-then-before-eq0, check_node-then-before-eq0-via-else-before-eq0+then-not-own}
 
@@ -52,7 +52,7 @@ check_node-returns-then-before-eq0 g t c =
     elim c.then-before-eq0.branch [
       | check_node-then-before-eq0-via-then-before-eq0 w ↦ omega (arith, p.nodes, some_nodes g.F.Format.layout x.arena.now.words.now x.arena.now.count r, w.if-before-eq0.true)
       | check_node-then-before-eq0-via-else-before-eq0+then-not-own w ↦
-          refuted w.own.result w.own.ensures w.if-not-own.true (shape_own g.F.Format.layout x.arena.now.words.now x.arena.now.count r.below r.fewest r.node r.parent r.place p.holds)
+          not_own g.F.Format.layout x.arena.now.words.now x.arena.now.count r w.own.result w.own.ensures w.if-not-own.true p.holds
     ]
 
 pub check_node-returns-in_err-check_keys : goal.check_node-returns-in_err-check_keys
@@ -62,7 +62,7 @@ check_node-returns-in_err-check_keys g t c =
     let w = x.arena.now.words.now in
     let count = x.arena.now.count in
     rw c.from_residual.ensures (leaf_said g.F.Format.layout w count r.fewest r.node r.parent r.place _ x.before _ None None r.below c.len-n.result c.if-v-eq0.true c.len-n.ensures refl
-    (own_said g.F.Format.layout w count r x.before (decided c.own.result c.own.ensures c.if-not-own.false) (omega (arith, c.if-before-eq0.false))) c.in_err-check_keys.ensures refl)
+    (own_said g.F.Format.layout w count r x.before c.own.result c.own.ensures c.if-not-own.false (omega (arith, c.if-before-eq0.false))) c.in_err-check_keys.ensures refl)
 
 pub check_node-returns-then-v-eq0 : goal.check_node-returns-then-v-eq0
 check_node-returns-then-v-eq0 g t c =
@@ -71,7 +71,7 @@ check_node-returns-then-v-eq0 g t c =
     let w = x.arena.now.words.now in
     let count = x.arena.now.count in
     leaf_said g.F.Format.layout w count r.fewest r.node r.parent r.place _ x.before _ (Some c.in_ok-check_keys.field-0) c.told.result r.below c.len-n.result c.if-v-eq0.true c.len-n.ensures refl
-    (own_said g.F.Format.layout w count r x.before (decided c.own.result c.own.ensures c.if-not-own.false) (omega (arith, c.if-before-eq0.false))) c.in_ok-check_keys.ensures c.told.ensures
+    (own_said g.F.Format.layout w count r x.before c.own.result c.own.ensures c.if-not-own.false (omega (arith, c.if-before-eq0.false))) c.in_ok-check_keys.ensures c.told.ensures
 
 pub check_node-returns-then-not-lead : goal.check_node-returns-then-not-lead
 check_node-returns-then-not-lead g t c =
@@ -88,7 +88,7 @@ check_node-returns-in_err-check_edges g t c =
     let w = x.arena.now.words.now in
     let count = x.arena.now.count in
     rw c.from_residual-in_err-check_edges.ensures (inner_said g.F.Format.layout w count r.fewest r.node r.parent r.place _ x.before _ None None r.below c.len-n.result c.if-v-eq0.false c.len-n.ensures refl
-    (own_said g.F.Format.layout w count r x.before (decided c.own.result c.own.ensures c.if-not-own.false) (omega (arith, c.if-before-eq0.false))) c.in_err-check_edges.ensures refl)
+    (own_said g.F.Format.layout w count r x.before c.own.result c.own.ensures c.if-not-own.false (omega (arith, c.if-before-eq0.false))) c.in_err-check_edges.ensures refl)
 
 pub check_node-returns : goal.check_node-returns
 check_node-returns g t c =
@@ -97,4 +97,4 @@ check_node-returns g t c =
     let w = x.arena.now.words.now in
     let count = x.arena.now.count in
     inner_said g.F.Format.layout w count r.fewest r.node r.parent r.place _ x.before _ (Some c.in_ok-check_edges.field-0) c.told-2.result r.below c.len-n.result c.if-v-eq0.false c.len-n.ensures refl
-    (own_said g.F.Format.layout w count r x.before (decided c.own.result c.own.ensures c.if-not-own.false) (omega (arith, c.if-before-eq0.false))) c.in_ok-check_edges.ensures c.told-2.ensures
+    (own_said g.F.Format.layout w count r x.before c.own.result c.own.ensures c.if-not-own.false (omega (arith, c.if-before-eq0.false))) c.in_ok-check_edges.ensures c.told-2.ensures

@@ -6,7 +6,7 @@ use Rattle.inspect.specs.Tests.{reached, steps}
 use Rattle.inspect.proofs.Decisions.{decided, refuted}
 use Rattle.inspect.proofs.Ups.{ups_few}
 use Rattle.checker.specs.Walks.{Passes, node_task}
-use Rattle.checker.proofs.Nodes.{some_nodes, shape_own}
+use Rattle.checker.proofs.Nodes.{some_nodes, not_own}
 use Rattle.checker.proofs.Leaves.{Passed, leaf_passed, leaf_good}
 use Rattle.checker.proofs.check_leaf.Goals as goal
 use Rattle.checker.proofs.check_leaf.Goals.{Start, then-before-eq0-via-then-before-eq0, then-before-eq0-via-else-before-eq0+then-not-own_leaf, then-before-n-via-then-before-n, then-before-n-via-else-before-n+then-not-above, then-before-n-via-else-before-n+else-not-above+then-ascents-n, then-before-n-via-else-before-n+else-not-above+else-ascents-n+then-not-counted}
@@ -27,7 +27,7 @@ returns-then-before-eq0 g c =
     elim c.then-before-eq0.branch [
       | then-before-eq0-via-then-before-eq0 w ↦ omega (arith, p.nodes, some_nodes g.F.Format.layout x.arena.now.words.now x.arena.now.count r, w.if-before-eq0.true)
       | then-before-eq0-via-else-before-eq0+then-not-own_leaf w ↦
-          refuted w.own_leaf.result w.own_leaf.ensures w.if-not-own_leaf.true (shape_own g.F.Format.layout x.arena.now.words.now x.arena.now.count r.below r.fewest r.node r.parent r.place p.holds)
+          not_own g.F.Format.layout x.arena.now.words.now x.arena.now.count r w.own_leaf.result w.own_leaf.ensures w.if-not-own_leaf.true p.holds
     ]
 
 pub overflow_add-ascents : goal.overflow_add-ascents

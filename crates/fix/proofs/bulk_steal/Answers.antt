@@ -1,13 +1,10 @@
 -- `fix::bulk_steal` meets its contract: the same at either side.
 -- Assumes nothing.
-use Rattle.std.proofs.Common.{ap, sym, subst}
-use Rattle.model.specs.Insert.{Side, left, right}
+use Rattle.std.proofs.Common.{ap, subst}
+use Rattle.model.specs.Insert.{Side}
 use Rattle.balance.specs.declared.BalancingContext.{BalancingContext}
 use Rattle.node.specs.Reading.{Has}
 use Rattle.totals.proofs.Siblings.{SetCall, SettleCall}
-use Rattle.balance.specs.Moves.{Shaped}
-use Rattle.standing.specs.Totals.{due}
-use Rattle.totals.specs.Settling.{Settles}
 use Rattle.fix.specs.Repairs.{side_of, both_of}
 use Rattle.fix.proofs.Balances.{Steals, RawSteal, steal_in, steal_set, steal_set_right, steal_settle, steal_hole}
 use Rattle.fix.proofs.bulk_steal.Goals as goal

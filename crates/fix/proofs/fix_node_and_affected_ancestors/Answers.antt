@@ -1,22 +1,13 @@
 -- `fix::fix_node_and_affected_ancestors` meets its contract: whatever the repair was going to, it is going to still.
 -- Assumes nothing.
-use mathlib.Core.Path.{refl, subst}
 use native.Mathlib.Omega.{arith}
 use Rattle.model.specs.Nodes.{Grown}
-use Rattle.std.proofs.Common.{Option, Result, Ok, Some}
-use Rattle.node.specs.declared.NodeNo.{NodeNo}
-use Rattle.fix.specs.declared.EmptyRoot.{EmptyRoot}
+use Rattle.std.proofs.Common.{Ok, Some}
 use Rattle.standing.specs.Heads.{Rest}
 use Rattle.fix.specs.Repairs.{Mending, Fixing}
 use Rattle.fix.proofs.Balances.{mending_used}
 use Rattle.fix.proofs.fix_node_and_affected_ancestors.Goals as goal
 use Rattle.fix.proofs.fix_node_and_affected_ancestors.Goals.{In-Ok-Some}
-
-pub loop-parent-init : goal.loop-parent-init
-loop-parent-init c = (c.requires, refl, λ g t m. m)
-
-pub fix_node_through_parent-requires : goal.fix_node_through_parent-requires
-fix_node_through_parent-requires c = c.loop-parent.invariant.0
 
 -- a merge: the repair goes on at the parent
 on : (c : In-Ok-Some) (g : Rest) (t : Grown) → Mending c.loop-parent.a g c.loop-parent.n.0 t → Fixing (Ok (Some c.in-Ok-Some.parent)) c.loop-parent.a c.fix_node_through_parent.new.a g t
@@ -34,14 +25,5 @@ loop-parent-preserved c =
     let f = l.invariant.0 in
     (record { rest = f.rest; end = f.end; mending = (on c f.rest f.end f.mending).0 }, omega (arith, l.invariant.1), λ g t m. (on c g t (l.invariant.2 g t m)).0)
 
-pub shape_of-a-in-Ok-None : goal.shape_of-a-in-Ok-None
-shape_of-a-in-Ok-None c = omega (arith, c.loop-parent.invariant.1)
-
 pub returns-in-Ok-None : goal.returns-in-Ok-None
 returns-in-Ok-None c = λ g t m. rw c.in-Ok-None.field-0-is at (c.in-Ok-None.ensures g t (c.loop-parent.invariant.2 g t m))
-
-pub shape_of-a-in-Err : goal.shape_of-a-in-Err
-shape_of-a-in-Err c = omega (arith, c.loop-parent.invariant.1)
-
-pub returns-in-Err : goal.returns-in-Err
-returns-in-Err c = λ g t m. c.in-Err.ensures g t (c.loop-parent.invariant.2 g t m)

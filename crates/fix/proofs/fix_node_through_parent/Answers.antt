@@ -1,11 +1,10 @@
 -- `fix::fix_node_through_parent` meets its contract: one pairing of the short node and its sibling serves all needs.
 -- Assumes nothing.
-use Rattle.std.proofs.Common.{◌≡◌, ◌+◌, length, leb, false, arith, sym, ◌∙◌, subst}
+use Rattle.std.proofs.Common.{◌≡◌, ◌+◌, length, leb, false, arith, sym, ◌∙◌}
 use Rattle.model.specs.Layout.{most, word_at, length_word}
 use Rattle.model.specs.Nodes.{Grown}
 use Rattle.model.specs.Remove.{can_merge}
 use Rattle.standing.specs.Heads.{Rest}
-use Rattle.balance.specs.declared.BalancingContext.{BalancingContext}
 use Rattle.fix.specs.Repairs.{side_of, both_of, Mending}
 use Rattle.fix.proofs.Choices.{mending_within, mending_long}
 use Rattle.fix.proofs.Balances.{Pairing, sides_known, merges_is, merges, merge_held, lend_in, lend_held, enough, at_root, root_empty, pairing}

@@ -7,7 +7,6 @@ use Rattle.model.specs.Layout.{header, height_word}
 use Rattle.model.specs.Insert.{needed}
 use Rattle.model.specs.State.{State}
 use Rattle.model.specs.Promise.{Holds}
-use Rattle.header.proofs.Headed.{held}
 use Rattle.insert.proofs.Needed.{Counting, count_start, count_within, count_low, count_few, count_ended, count_root, count_on}
 use Rattle.insert.proofs.nodes_needed.Goals as goal
 use Rattle.insert.proofs.nodes_needed.Goals.{At-loop-node, In-Some, at-In-Some}

@@ -1,6 +1,6 @@
 -- `insert::put` meets its contract.
 -- Assumes nothing.
-use Rattle.std.proofs.Common.{Option, ◌≡◌, length, Ok, sym, ◌∙◌, subst, arith}
+use Rattle.std.proofs.Common.{Ok, arith}
 use Rattle.model.specs.Answer.{said_former}
 use Rattle.model.specs.State.{State, put}
 use Rattle.model.specs.Promise.{Holds}

@@ -1,8 +1,7 @@
 -- `insert::settle_inserted` meets its contract.
 -- Assumes nothing.
-use Rattle.std.proofs.Common.{Option, ◌≡◌, List, ℕ, sym, subst}
+use Rattle.std.proofs.Common.{List, ℕ}
 use Rattle.model.specs.Tree.{Pair}
-use Rattle.leaf.specs.declared.SplitResult.{SplitResult}
 use Rattle.node.specs.Reading.{Has}
 use Rattle.totals.specs.Settling.{Settles}
 use Rattle.totals.proofs.Siblings.{SettleCall}

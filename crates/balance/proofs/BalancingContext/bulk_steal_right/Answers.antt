@@ -97,26 +97,11 @@ overflow_add-old_right_len c = omega (arith, c.len-old_right_len.ensures, shape_
 pub edges_with-right_edges-requires : goal.edges_with-right_edges-requires
 edges_with-right_edges-requires c = within c.requires.arena _ c.requires.holds.beside.right.node
 
-pub remove-up-requires : goal.remove-up-requires
-remove-up-requires c =
-    let p = c.requires in
-    let q = p.holds in
-    record { head = p.head; nodes = p.nodes; arena = p.arena; holds = right_ready₁ q _ _ (one_less q) (grown_is q) }
-
-pub replace_kv-down-requires : goal.replace_kv-down-requires
-replace_kv-down-requires c =
-    let p = c.requires in
-    let q = p.holds in
-    record { head = p.head; nodes = _; arena = (st₁ (goal.at.replace_kv-down-requires c).After-remove-up p.head p.nodes q p.arena).1; holds = right_ready₂ q _ _ (one_less q) (grown_is q) }
-
 pub insert_fit-requires : goal.insert_fit-requires
 insert_fit-requires c =
     let p = c.requires in
     let q = p.holds in
     record { head = p.head; nodes = _; arena = (st₂ (goal.at.insert_fit-requires c).After-replace_kv-down p.head p.nodes q p.arena).1; holds = right_ready₃ q _ _ (one_less q) (grown_is q) _ (counts (goal.at.insert_fit-requires c).After-edges_with-right_edges p.head p.nodes q p.arena).0 }
-
-pub overflow_sub-count-2 : goal.overflow_sub-count-2
-overflow_sub-count-2 c = omega (arith, c.requires.holds.some)
 
 pub move_first_pairs-requires : goal.move_first_pairs-requires
 move_first_pairs-requires c =

@@ -72,11 +72,6 @@ st₇ c h ns free q a =
     let k = counts (at-After-correct_childrens_parent_links-2 c).After-edges_with-right_edges h ns free q a in
     c.correct_childrens_parent_links-2.ensures h _ (links_p q _ k.0) (st₆ (at-After-correct_childrens_parent_links-2 c).After-correct_childrens_parent_links h ns free q a)
 
-pub overflow_add-next : goal.overflow_add-next
-overflow_add-next c =
-    let p = c.requires in
-    omega (arith, p.holds.1.beside.place, (p.arena.small _ p.holds.1.beside.parent).pairs_fit)
-
 pub len-old_parent_len-requires : goal.len-old_parent_len-requires
 len-old_parent_len-requires c = within c.requires.arena _ c.requires.holds.1.beside.parent
 
