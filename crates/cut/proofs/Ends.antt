@@ -1,12 +1,6 @@
 -- How a cut ends: each refusal under its condition, or done.
 -- Assumes nothing.
-use Prim.Native.Nat.{ℕ, ◌+◌, ◌-◌, ◌≤◌, ◌<◌}
-use native.Mathlib.Omega.{arith}
-use mathlib.Core.Path.{◌≡◌, refl, sym, ap, ◌∙◌, subst}
-use mathlib.Core.Logic.{inl, inr}
-use mathlib.Core.List.{List}
-use lib.Dec.{lit<}
-use lib.ListN.{length, length-append}
+use Rattle.std.proofs.Common.{ℕ, ◌+◌, ◌-◌, ◌≤◌, ◌<◌, arith, ◌≡◌, refl, sym, ap, ◌∙◌, subst, inl, inr, List, lit<, length, length-append}
 use Rattle.model.specs.declared.Answer.TheVariants.{Done, NoRoom, BadArena, BadSize}
 use Rattle.model.specs.Layout.{Sized, header, pairs_word}
 use Rattle.model.specs.Tree.{before, after}
