@@ -18,15 +18,6 @@ use Rattle.model.proofs.Calls.{order_sound}
 use Rattle.slices.proofs.Laws.{set_two}
 use Rattle.batch.specs.Orders.{order_of, Ran}
 
--- ---- an order by its code
-
-module _ (c k v : ℕ) (s : State) where
-  pub order_by : (d : ℕ) → c ≡ d → order (order_of c k v) s ≡ order_as (kind_of d) k v s
-  order_by d e = ap (λ x. order (order_of x k v) s) e
-
-  pub order_bad : (c ≡ put_code → ⊥) → (c ≡ get_code → ⊥) → (c ≡ delete_code → ⊥) → (c ≡ reserve_code → ⊥) → order (order_of c k v) s ≡ record { answer = BadOrder; state = s }
-  order_bad n m l j = rw (ne_eqb c put_code n, ne_eqb c get_code m, ne_eqb c delete_code l, ne_eqb c reserve_code j)
-
 -- ---- in turn
 
 -- i orders of b are done, from s on: the arena's words w are those of `now`, and o has their answers
@@ -87,15 +78,3 @@ module _ {b : List ℕ} {s : State} {o₀ w o : List ℕ} {i : ℕ} (y : Turn b 
       all_gone [] (suc k) e = refl
       all_gone (x ∷ t) zero e = absurd (omega arith)
       all_gone (x ∷ t) (suc k) e = all_gone t k (omega arith)
-
--- ---- sizes
-
--- the number of orders
-pub third : (m long : ℕ) → long ≡ 3 * m → long / 3 ≡ m
-third m long e = omega (arith, e, div-add-mod' long 3, mod-lt long (let z : 0 < 3 = omega arith in z))
-
-pub no_triples : {b a : List ℕ} → (length b ≡ 3 * (length b / 3) → ⊥) → Fits b a → ⊥
-no_triples n f = n (f.triple ∙ ap (λ (m : ℕ). 3 * m) (sym (third f.orders _ f.triple)))
-
-pub no_pairs : {b a : List ℕ} → (length a ≡ 2 * (length b / 3) → ⊥) → Fits b a → ⊥
-no_pairs n f = n (f.pair ∙ ap (λ (m : ℕ). 2 * m) (sym (third f.orders _ f.triple)))

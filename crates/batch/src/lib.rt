@@ -7,49 +7,61 @@ ghost use Rattle.model.specs.WellFormed.{WellFormed};
 ghost use Rattle.model.specs.Promise.{Holds, Does};
 ghost use Rattle.model.specs.Public.{Promised};
 ghost use Rattle.model.specs.Public as promise;
-ghost use Rattle.model.specs.Answer.{numbers_of};
-ghost use Rattle.batch.specs.Orders.{order_of, Ran};
+ghost use Rattle.model.specs.Answer.{numbers_of, said_done};
+ghost use Rattle.batch.specs.Orders.{order_of, Asks, Ran};
 
-use checker::well_formed;
+use checker::check;
 use map::look;
-use model::Answer;
+use model::{Answer, Refused};
 
-const PUT: u64 = 1;
+// What an order asks for.
+#[derive(Clone, Copy)]
+pub enum Request {
+    Put(u64, u64),
+    Get(u64),
+    Delete(u64),
+    Reserve(u64),
+}
 
-const GET: u64 = 2;
+// Of its code, its key and its value.
+impl TryFrom<(u64, u64, u64)> for Request {
+    type Error = Refused;
 
-const DELETE: u64 = 3;
+    ghost try_from_gives = { Asks };
 
-const RESERVE: u64 = 4;
+    fn try_from((code, key, val): (u64, u64, u64)) -> Result<Request, Refused> {
+        match code {
+            1 => Ok(Request::Put(key, val)),
+            2 => Ok(Request::Get(key)),
+            3 => Ok(Request::Delete(key)),
+            4 => Ok(Request::Reserve(key)),
+            _ => Err(Refused::BadOrder),
+        }
+    }
+}
 
 // One order, behind a checked arena.
 fn run(a: &mut [u64], code: u64, key: u64, val: u64) -> Answer
     requires { WellFormed a.old }
     ensures { (s : model.State) → Holds a.old s → Does (model.order (order_of code key val) s) a.new result }
 {
-    if code == PUT {
-        return insert::put(a, key, val);
+    match Request::try_from((code, key, val)) {
+        Ok(Request::Put(key, val)) => Answer::former(insert::put(a, key, val)),
+        Ok(Request::Get(key)) => Answer::found(Ok(look(a, key))),
+        Ok(Request::Delete(key)) => Answer::found(Ok(remove::delete(a, key))),
+        Ok(Request::Reserve(key)) => Answer::from(reserve::reserve(a, key)),
+        Err(unknown) => Answer::from(unknown),
     }
-    if code == GET {
-        return look(a, key);
-    }
-    if code == DELETE {
-        return remove::delete(a, key);
-    }
-    if code == RESERVE {
-        return reserve::reserve(a, key);
-    }
-    Answer::BadOrder
 }
 
 // One order.
 pub fn order(a: &mut [u64], code: u64, key: u64, val: u64) -> Answer
     ensures { Promised (promise.order (order_of code key val)) a.old a.new tt result }
 {
-    if !well_formed(a) {
-        return Answer::BadArena;
+    match check(a) {
+        Ok(()) => run(a, code, key, val),
+        Err(refusal) => Answer::from(refusal),
     }
-    run(a, code, key, val)
 }
 
 // An answer's two words.
@@ -66,28 +78,21 @@ fn run_all(a: &mut [u64], orders: &[u64], answers: &mut [u64], n: usize)
     requires { WellFormed a.old × (length orders.now ≡ 3 * n) × (length answers.old ≡ 2 * n) }
     ensures { (s : model.State) → Holds a.old s → Ran orders.now s a.new answers.new }
 {
-    let mut i = 0;
-    while i < n {
+    for i in 0..n {
         let r = run(a, orders[3 * i], orders[3 * i + 1], orders[3 * i + 2]);
         write(answers, 2 * i, r);
-        i += 1;
     }
 }
 
 // A batch: whole triples, and exactly two words of answer an order.
-pub fn batch(a: &mut [u64], orders: &[u64], answers: &mut [u64]) -> Answer
-    ensures { Promised (promise.batch orders.now answers.old) a.old a.new answers.new result }
+pub fn batch(a: &mut [u64], orders: &[u64], answers: &mut [u64]) -> Result<(), Refused>
+    ensures { Promised (promise.batch orders.now answers.old) a.old a.new answers.new (said_done result) }
 {
     let n = orders.len() / 3;
-    if orders.len() != 3 * n {
-        return Answer::BadSize;
+    if orders.len() != 3 * n || answers.len() != 2 * n {
+        return Err(Refused::BadSize);
     }
-    if answers.len() != 2 * n {
-        return Answer::BadSize;
-    }
-    if !well_formed(a) {
-        return Answer::BadArena;
-    }
+    check(a)?;
     run_all(a, orders, answers, n);
-    Answer::Done
+    Ok(())
 }

@@ -4,12 +4,13 @@
 
 use batch::batch;
 use format::format;
+use model::Answer;
 use restore::restore;
 use std::io;
 use telling::{say_answer, say_line};
 
 fn run(rt: &impl Print, a: &mut [u64], orders: &[u64], answers: &mut [u64]) -> io::Result<()> {
-    say_answer(rt, batch(a, orders, answers))?;
+    say_answer(rt, Answer::from(batch(a, orders, answers)))?;
     say_line(rt, answers)?;
     say_line(rt, a)
 }
@@ -19,7 +20,7 @@ fn four(rt: &impl Print, a: &mut [u64], orders: &[u64]) -> io::Result<()> {
 }
 
 fn bring_back(rt: &impl Print, a: &mut [u64], image: &[u64], older: bool) -> io::Result<()> {
-    say_answer(rt, restore(a, image, older))?;
+    say_answer(rt, Answer::from(restore(a, image, older)))?;
     say_line(rt, a)
 }
 
@@ -37,7 +38,7 @@ fn no_arena(rt: &impl Print) -> io::Result<()> {
 // An image that counts a pair too many is none, and neither is one of another length: the arena keeps its pair.
 fn no_image(rt: &impl Print) -> io::Result<()> {
     let mut a = [7; 49];
-    format(&mut a);
+    let _ = format(&mut a);
     let mut image = a;
     run(rt, &mut a, &[1, 5, 50], &mut [9, 9])?;
     bring_back(rt, &mut a, &[7; 88], false)?;
@@ -54,7 +55,7 @@ fn no_image(rt: &impl Print) -> io::Result<()> {
 // Put 9, copy, put 12, restore the copy, which is refused unless an older one is meant: only 9, mark 12; and of a mark and a higher one the image's.
 fn nonces(rt: &impl Print) -> io::Result<()> {
     let mut a = [7; 49];
-    format(&mut a);
+    let _ = format(&mut a);
     run(rt, &mut a, &[1, 9, 90], &mut [9, 9])?;
     let image = a;
     run(rt, &mut a, &[1, 12, 120], &mut [9, 9])?;
@@ -62,7 +63,7 @@ fn nonces(rt: &impl Print) -> io::Result<()> {
     bring_back(rt, &mut a, &image, false)?;
     bring_back(rt, &mut a, &image, true)?;
     run(rt, &mut a, &[2, 9, 0, 2, 12, 0], &mut [9, 9, 9, 9])?;
-    format(&mut a);
+    let _ = format(&mut a);
     run(rt, &mut a, &[1, 3, 30], &mut [9, 9])?;
     bring_back(rt, &mut a, &later, false)?;
     bring_back(rt, &mut a, &later, false)
@@ -71,7 +72,7 @@ fn nonces(rt: &impl Print) -> io::Result<()> {
 // Nothing seen on both sides is not older; a seen mark of 0 is above none.
 fn unseen(rt: &impl Print) -> io::Result<()> {
     let mut a = [7; 49];
-    format(&mut a);
+    let _ = format(&mut a);
     let image = a;
     bring_back(rt, &mut a, &image, false)?;
     run(rt, &mut a, &[4, 0, 0], &mut [9, 9])?;
@@ -81,7 +82,7 @@ fn unseen(rt: &impl Print) -> io::Result<()> {
 // A reserve hands a counter out once; a put below the mark stays allowed; code 5 is none.
 fn reserves(rt: &impl Print) -> io::Result<()> {
     let mut a = [7; 49];
-    format(&mut a);
+    let _ = format(&mut a);
     four(rt, &mut a, &[4, 0, 7, 4, 0, 7, 1, 5, 50, 4, 9, 7])?;
     four(rt, &mut a, &[4, 9, 7, 1, 7, 70, 4, 10, 7, 5, 11, 7])
 }
@@ -89,7 +90,7 @@ fn reserves(rt: &impl Print) -> io::Result<()> {
 // One leaf: the twelfth key finds no room, unknown codes are refused, and neither stops the rest.
 fn no_room(rt: &impl Print) -> io::Result<()> {
     let mut a = [7; 49];
-    format(&mut a);
+    let _ = format(&mut a);
     four(rt, &mut a, &[1, 10, 1, 1, 20, 2, 1, 30, 3, 1, 40, 4])?;
     four(rt, &mut a, &[1, 50, 5, 1, 60, 6, 1, 70, 7, 1, 80, 8])?;
     four(rt, &mut a, &[1, 90, 9, 1, 100, 10, 1, 110, 11, 1, 120, 12])?;
@@ -100,7 +101,7 @@ fn no_room(rt: &impl Print) -> io::Result<()> {
 // Three nodes: a split, and back to one leaf; then the split tree restored over it.
 fn split(rt: &impl Print) -> io::Result<()> {
     let mut a = [7; 127];
-    format(&mut a);
+    let _ = format(&mut a);
     four(rt, &mut a, &[1, 1, 101, 1, 2, 102, 1, 3, 103, 1, 4, 104])?;
     four(rt, &mut a, &[1, 5, 105, 1, 6, 106, 1, 7, 107, 1, 8, 108])?;
     four(rt, &mut a, &[1, 9, 109, 1, 10, 110, 1, 11, 111, 1, 12, 112])?;

@@ -2,4 +2,3 @@
 -- Assumes nothing.
 pub mod Tests
 pub mod Short
-pub mod Lays

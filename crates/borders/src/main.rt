@@ -19,10 +19,7 @@ const LONG: usize = 634;
 fn word(b: u8) -> u64
     ensures { result ≡ word_of b }
 {
-    if b == 255 {
-        return NONE;
-    }
-    b as u64
+    if b == 255 { NONE } else { u64::from(b) }
 }
 
 // The words that the bytes stand for.
@@ -30,10 +27,8 @@ fn lay(a: &mut [u64], s: &[u8])
     requires { length a.old ≡ length s.now }
     ensures { a.new ≡ words_in s.now }
 {
-    let mut i = 0;
-    while i < s.len() {
-        a[i] = word(s[i]);
-        i += 1;
+    for (i, b) in s.iter().enumerate() {
+        a[i] = word(*b);
     }
 }
 

@@ -1,64 +1,42 @@
--- The kinds of bound, and what a listing between two bounds comes to in each case.
+-- What a call between two bounds comes to in each case.
 -- Assumes nothing.
-use Prim.Native.Nat.{ℕ, zero, suc, ◌≤◌}
-use native.Mathlib.Omega.{arith}
-use mathlib.Core.Path.{◌≡◌, refl, sym, subst}
-use mathlib.Core.Bool.{Bool, true, false, cond}
-use mathlib.Core.Logic.{inl, inr}
-use mathlib.Core.List.{List}
-use mir.Val.{bool_byte}
+use Rattle.std.proofs.Common.{◌≡◌, List, [], ◌∷◌, Option, Some, None, Result, Ok, Err, false, ℕ, inl, inr, subst, sym, ap, ◌∙◌}
 use Rattle.model.specs.declared.Answer.{Answer}
-use Rattle.model.specs.declared.Answer.TheVariants.{BadArena, BadRange}
 use Rattle.model.specs.declared.Counted.{Counted}
-use Rattle.model.specs.declared.Picked.{Picked}
-use Rattle.model.specs.declared.Range.{Range}
 use Rattle.model.specs.declared.Listed.{Listed}
+use Rattle.model.specs.declared.Range.{Range}
+use Rattle.model.specs.declared.Refused.{Refused}
 use Rattle.model.specs.declared.SearchBound.{SearchBound}
-use Rattle.model.specs.WellFormed.{WellFormed}
-use Rattle.model.specs.Promise.{Listing, Count}
-use Rattle.cuffgarnet.specs.declared.Bound.{Bound}
-use Rattle.cuffgarnet.specs.declared.Bound.TheVariants.{Known, Unknown}
-use Rattle.cuffgarnet.specs.Exported.{bound_of, Spanned, Between, CountBetween, SeekBy}
+use Rattle.model.specs.Answer.{refused}
+use Rattle.model.specs.Promise.{Ends, bad_arena, Listing, Count}
+use Rattle.cuffgarnet.specs.Exported.{no_kind, Spanned, IsRefusal}
 
--- from 3 on there is no kind
-pub other_kind : (k key : ℕ) → 3 ≤ k → Unknown ≡ bound_of k key
-other_kind zero key l = absurd (omega arith)
-other_kind (suc zero) key l = absurd (omega arith)
-other_kind (suc (suc zero)) key l = absurd (omega arith)
-other_kind (suc (suc (suc k))) key l = refl
+module _ (w : List ℕ) (R S : Answer → Type 0) (g : (a : Answer) → R a → S a) where
+  pub refused_as : Ends (bad_arena w ∷ no_kind ∷ []) R ⊥ → Ends (bad_arena w ∷ no_kind ∷ []) S ⊥
+  refused_as (inl x) = inl (x.0, g _ x.1)
+  refused_as (inr y) = inr (y.0, next y.1)
+    where
+      next : Ends (no_kind ∷ []) R ⊥ → Ends (no_kind ∷ []) S ⊥
+      next (inl x) = inl (x.0, g _ x.1)
+      next (inr z) = inr z
 
--- a bound of no kind: a bad arena first, then BadRange
-pub bad_first : {w : List ℕ} {r : Listed} → (WellFormed w → ⊥) → r ≡ record { answer = BadArena; wrote = 0; more = false } → (o : List ℕ) → Between Unknown Unknown w o o r
-bad_first b e o = inl (b, (refl, e))
+  pub spanned_as : (P Q : Range → Type 0) → ((q : Range) → P q → Q q) → (s e : Option SearchBound) → Spanned w P R s e → Spanned w Q S s e
+  spanned_as P Q f (Some s) (Some e) x = f _ x
+  spanned_as P Q f (Some s) None x = refused_as x
+  spanned_as P Q f None e x = refused_as x
 
-pub then_range : {w : List ℕ} {r : Listed} → WellFormed w → r ≡ record { answer = BadRange; wrote = 0; more = false } → (o : List ℕ) → Between Unknown Unknown w o o r
-then_range f e o = inr ((λ b. b f), inl ((λ x. x), (refl, e)))
+module _ (w : List ℕ) (P : Range → Type 0) (S : Answer → Type 0) (s e : Option SearchBound) where
+  -- the range that the bounds span
+  pub between : (q : Range) → Spanned w (λ t. Ok q ≡ Ok t) (IsRefusal (Ok q)) s e → P q → Spanned w P S s e
+  between q x p = spanned_as w (IsRefusal (Ok q)) S (λ a y. let r = y.1 in cc) (λ t. Ok q ≡ Ok t) P (λ t y. let k : q ≡ t = cc in subst P k p) s e x
 
--- the same of a count
-pub count_bad_first : {w : List ℕ} {r : Counted} → (WellFormed w → ⊥) → r ≡ record { answer = BadArena; number = 0 } → CountBetween Unknown Unknown w r
-count_bad_first b e = inl (b, e)
-
-pub count_then_range : {w : List ℕ} {r : Counted} → WellFormed w → r ≡ record { answer = BadRange; number = 0 } → CountBetween Unknown Unknown w r
-count_then_range f e = inr ((λ b. b f), inl ((λ x. x), e))
-
--- by the bounds that are asked for
-module _ (w : List ℕ) (P : Range → Type 0) (R : Answer → Type 0) (s e : Bound) where
-  pub no_start : s ≡ Unknown → Spanned w P R Unknown Unknown → Spanned w P R s e
-  no_start p x = subst (λ (t : Bound). Spanned w P R t e) (sym p) x
-
-  pub no_end : (b : SearchBound) → s ≡ Known b → e ≡ Unknown → Spanned w P R Unknown Unknown → Spanned w P R s e
-  no_end b p q x = subst (λ (t : Bound). Spanned w P R t e) (sym p) (subst (λ (t : Bound). Spanned w P R (Known b) t) (sym q) x)
-
-  pub both : (b d : SearchBound) → s ≡ Known b → e ≡ Known d → P (record { start = b; end = d }) → Spanned w P R s e
-  both b d p q x = subst (λ (t : Bound). Spanned w P R t e) (sym p) (subst (λ (t : Bound). Spanned w P R (Known b) t) (sym q) x)
+  -- none, since one is of no kind
+  pub between_none : (why : Refused) → Spanned w (λ t. Err why ≡ Ok t) (IsRefusal (Err why)) s e → S (refused why) → Spanned w P S s e
+  between_none why x p = spanned_as w (IsRefusal (Err why)) S (λ a y. let r = y.1 in let q = y.2 in let k : refused why ≡ a = cc in subst S k p) (λ t. Err why ≡ Ok t) P (λ t y. cc) s e x
 
   -- the bounds by another name
-  pub same_bounds : (s' e' : Bound) → s ≡ s' → e ≡ e' → Spanned w P R s e → Spanned w P R s' e'
-  same_bounds s' e' p q x = subst (λ (t : Bound). Spanned w P R t e') p (subst (λ (t : Bound). Spanned w P R s t) q x)
-
--- a cursor sought, the bound by another name
-pub sought_as : (b d : Bound) (n : ℕ) (w u u' : List ℕ) (r : Picked) → b ≡ d → SeekBy b n w u u' r → SeekBy d n w u u' r
-sought_as b d n w u u' r e x = subst (λ (t : Bound). SeekBy t n w u u' r) e x
+  pub same_bounds : (s' e' : Option SearchBound) → s ≡ s' → e ≡ e' → Spanned w P S s e → Spanned w P S s' e'
+  same_bounds s' e' p q x = subst (λ (t : Option SearchBound). Spanned w P S t e') p (subst (λ (t : Option SearchBound). Spanned w P S s t) q x)
 
 -- what a listing and a count ask of a range, and say where they are refused
 abbrev pub IsListing : (w o o' : List ℕ) → Listed → Range → Type 0
@@ -72,8 +50,3 @@ IsCount w r q = Count q w w r
 
 abbrev pub IsRefusedCount : Counted → Answer → Type 0
 IsRefusedCount r a = r ≡ record { answer = a; number = 0 }
-
--- a bool as a word
-pub as_number : (t : Bool) → bool_byte t ≡ cond t 1 0
-as_number true = refl
-as_number false = refl

@@ -2,3 +2,4 @@
 -- Assumes nothing.
 pub mod Bounds
 pub mod Same
+pub mod Told

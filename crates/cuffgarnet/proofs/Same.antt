@@ -3,6 +3,7 @@
 use Prim.Native.Nat.{ℕ}
 use mathlib.Core.Path.{◌≡◌, sym, ap, ◌∙◌}
 use mathlib.Core.Bool.{Bool, false, cond}
+use Rattle.std.specs.Prelude.{Option, Some, None}
 use mathlib.Core.List.{List, [], ◌∷◌}
 use Rattle.model.specs.declared.Answer.{Answer}
 use Rattle.model.specs.declared.Listed.{Listed}
@@ -19,8 +20,7 @@ use Rattle.model.specs.Cursor as cursor
 use Rattle.model.specs.Cursor.{Cursor, past, Moved}
 use Rattle.kept.specs.Kept.{cursor_by, Making, Stepping}
 use Rattle.kept.proofs.Same.{one_making, one_stepping, one_no_bound}
-use Rattle.cuffgarnet.specs.declared.Bound.{Bound}
-use Rattle.cuffgarnet.specs.declared.Bound.TheVariants.{Known, Unknown}
+use Rattle.model.specs.declared.SearchBound.{SearchBound}
 use Rattle.cuffgarnet.specs.Exported.{Numbered, Worded, Told, Summed, Paired, no_kind, Between, CountBetween, SeekBy}
 
 -- one answer has one number
@@ -49,18 +49,18 @@ pub same_restore : (meant : Bool) (w i : List ℕ) {w₁ w₂ : List ℕ} {n m :
 same_restore meant w i x y = let e = one_restore meant w i x.given y.given in (e.0, one_number x y e.1)
 
 -- a listing between two bounds, of whatever kinds
-one_refused : (w o : List ℕ) {o₁ o₂ : List ℕ} {r₁ r₂ : Listed} → Between Unknown Unknown w o o₁ r₁ → Between Unknown Unknown w o o₂ r₂ → (o₁ ≡ o₂) × (r₁ ≡ r₂)
+one_refused : (w o : List ℕ) {o₁ o₂ : List ℕ} {r₁ r₂ : Listed} → Between None None w o o₁ r₁ → Between None None w o o₂ r₂ → (o₁ ≡ o₂) × (r₁ ≡ r₂)
 one_refused w o {o₁} {o₂} {r₁} {r₂} = one_end (bad_arena w ∷ no_kind ∷ []) left (λ x y. absurd x)
   where
     left : (a : Answer) → (o₁ ≡ o) × (r₁ ≡ record { answer = a; wrote = 0; more = false }) → (o₂ ≡ o) × (r₂ ≡ record { answer = a; wrote = 0; more = false }) → (o₁ ≡ o₂) × (r₁ ≡ r₂)
     left a x y = (x.0 ∙ sym y.0, x.1 ∙ sym y.1)
 
-one_between : (s e : Bound) (w o : List ℕ) {o₁ o₂ : List ℕ} {r₁ r₂ : Listed} → Between s e w o o₁ r₁ → Between s e w o o₂ r₂ → (o₁ ≡ o₂) × (r₁ ≡ r₂)
-one_between (Known s) (Known e) w o x y = let d = one_listing (record { start = s; end = e }) w o x y in (d.1, d.2)
-one_between (Known s) Unknown w o x y = one_refused w o x y
-one_between Unknown e w o x y = one_refused w o x y
+one_between : (s e : Option SearchBound) (w o : List ℕ) {o₁ o₂ : List ℕ} {r₁ r₂ : Listed} → Between s e w o o₁ r₁ → Between s e w o o₂ r₂ → (o₁ ≡ o₂) × (r₁ ≡ r₂)
+one_between (Some s) (Some e) w o x y = let d = one_listing (record { start = s; end = e }) w o x y in (d.1, d.2)
+one_between (Some s) None w o x y = one_refused w o x y
+one_between None e w o x y = one_refused w o x y
 
-pub same_listing : (s e : Bound) (w o : List ℕ) {o₁ o₂ : List ℕ} {n m j k u v : ℕ} → Told (Between s e w o o₁) n j u → Told (Between s e w o o₂) m k v → (o₁ ≡ o₂) × (n ≡ m) × (j ≡ k) × (u ≡ v)
+pub same_listing : (s e : Option SearchBound) (w o : List ℕ) {o₁ o₂ : List ℕ} {n m j k u v : ℕ} → Told (Between s e w o o₁) n j u → Told (Between s e w o o₂) m k v → (o₁ ≡ o₂) × (n ≡ m) × (j ≡ k) × (u ≡ v)
 same_listing s e w o x y =
     let d = one_between s e w o x.given y.given in (
       d.0,
@@ -76,18 +76,18 @@ one_sum x y e = (x.number_is ∙ ap (λ (c : Counted). (numbers_of c.answer).num
 pub same_rank : (k : ℕ) (w : List ℕ) {n m u v : ℕ} → Summed (Rank k w w) n u → Summed (Rank k w w) m v → (n ≡ m) × (u ≡ v)
 same_rank k w x y = one_sum x y (one_tell (bad_arena w ∷ []) (rank k) w x.given y.given).1
 
-one_uncounted : (w : List ℕ) {r₁ r₂ : Counted} → CountBetween Unknown Unknown w r₁ → CountBetween Unknown Unknown w r₂ → r₁ ≡ r₂
+one_uncounted : (w : List ℕ) {r₁ r₂ : Counted} → CountBetween None None w r₁ → CountBetween None None w r₂ → r₁ ≡ r₂
 one_uncounted w {r₁} {r₂} = one_end (bad_arena w ∷ no_kind ∷ []) left (λ x y. absurd x)
   where
     left : (a : Answer) → r₁ ≡ record { answer = a; number = 0 } → r₂ ≡ record { answer = a; number = 0 } → r₁ ≡ r₂
     left a x y = x ∙ sym y
 
-one_count_between : (s e : Bound) (w : List ℕ) {r₁ r₂ : Counted} → CountBetween s e w r₁ → CountBetween s e w r₂ → r₁ ≡ r₂
-one_count_between (Known s) (Known e) w x y = let q : Range = record { start = s; end = e } in (one_tell (bad_arena w ∷ bad_range_of q ∷ []) (count_of q) w x y).1
-one_count_between (Known s) Unknown w x y = one_uncounted w x y
-one_count_between Unknown e w x y = one_uncounted w x y
+one_count_between : (s e : Option SearchBound) (w : List ℕ) {r₁ r₂ : Counted} → CountBetween s e w r₁ → CountBetween s e w r₂ → r₁ ≡ r₂
+one_count_between (Some s) (Some e) w x y = let q : Range = record { start = s; end = e } in (one_tell (bad_arena w ∷ bad_range_of q ∷ []) (count_of q) w x y).1
+one_count_between (Some s) None w x y = one_uncounted w x y
+one_count_between None e w x y = one_uncounted w x y
 
-pub same_count : (s e : Bound) (w : List ℕ) {n m u v : ℕ} → Summed (CountBetween s e w) n u → Summed (CountBetween s e w) m v → (n ≡ m) × (u ≡ v)
+pub same_count : (s e : Option SearchBound) (w : List ℕ) {n m u v : ℕ} → Summed (CountBetween s e w) n u → Summed (CountBetween s e w) m v → (n ≡ m) × (u ≡ v)
 same_count s e w x y = one_sum x y (one_count_between s e w x.given y.given)
 
 -- a pair
@@ -108,9 +108,9 @@ same_making f c w u x y =
     let d = one_pair x y e.1 in
     (e.0, d.0, d.1, d.2)
 
-pub same_seek : (b : Bound) (n : ℕ) (w u : List ℕ) {u₁ u₂ : List ℕ} {i m j k p q : ℕ} → Paired (SeekBy b n w u u₁) i j p → Paired (SeekBy b n w u u₂) m k q → (u₁ ≡ u₂) × (i ≡ m) × (j ≡ k) × (p ≡ q)
-same_seek (Known b) n w u x y = same_making (cursor.seek n b) (record { changes = n; stand = past }) w u x y
-same_seek Unknown n w u x y =
+pub same_seek : (b : Option SearchBound) (n : ℕ) (w u : List ℕ) {u₁ u₂ : List ℕ} {i m j k p q : ℕ} → Paired (SeekBy b n w u u₁) i j p → Paired (SeekBy b n w u u₂) m k q → (u₁ ≡ u₂) × (i ≡ m) × (j ≡ k) × (p ≡ q)
+same_seek (Some b) n w u x y = same_making (cursor.seek n b) (record { changes = n; stand = past }) w u x y
+same_seek None n w u x y =
     let e = one_no_bound n w u x.given y.given in
     let d = one_pair x y e.1 in
     (e.0, d.0, d.1, d.2)

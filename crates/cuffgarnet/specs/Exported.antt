@@ -1,20 +1,20 @@
 -- What the exported calls hand out in plain words: an answer's number, its second word, and a range asked for by kinds of bound.
 -- Assumes nothing.
-use Rattle.std.specs.Prelude.{ℕ, zero, suc, ◌≡◌, Bool, false, cond, List, [], ◌∷◌, eqb}
+use Rattle.std.specs.Prelude.{ℕ, zero, suc, ◌≡◌, Bool, false, cond, List, [], ◌∷◌, eqb, Option, Some, None, Result, Err}
 use Rattle.model.specs.declared.Answer.{Answer}
 use Rattle.model.specs.declared.Listed.{Listed}
 use Rattle.model.specs.declared.Counted.{Counted}
 use Rattle.model.specs.declared.Picked.{Picked}
 use Rattle.model.specs.declared.Range.{Range}
+use Rattle.model.specs.declared.SearchBound.{SearchBound}
 use Rattle.model.specs.declared.SearchBound.TheVariants.{Included, Excluded, AllIncluded}
-use Rattle.model.specs.Answer.{numbers_of}
+use Rattle.model.specs.declared.Refused.{Refused}
+use Rattle.model.specs.Answer.{numbers_of, refused}
 use Rattle.model.specs.Promise.{Ends, bad_arena, Listing, Count}
 use Rattle.model.specs.Public as promise
 use Rattle.model.specs.Public.{Promised}
 pub use Rattle.kept.specs.Kept.{no_kind}
 use Rattle.kept.specs.Kept.{Making, NoBound}
-use Rattle.cuffgarnet.specs.declared.Bound.{Bound}
-use Rattle.cuffgarnet.specs.declared.Bound.TheVariants.{Known, Unknown}
 
 -- the number returned is that of an answer that the promise allows
 pub record Numbered (allowed : Answer → Type 0) (number : ℕ) : Type 0 where
@@ -42,30 +42,34 @@ abbrev pub meant_by : ℕ → Bool
 meant_by older = eqb older 1
 
 -- the kinds of bound: 0 open, 1 included, 2 excluded, and no other
-abbrev pub bound_of : ℕ → ℕ → Bound
-bound_of zero key = Known AllIncluded
-bound_of (suc zero) key = Known (Included key)
-bound_of (suc (suc zero)) key = Known (Excluded key)
-bound_of (suc (suc (suc kind))) key = Unknown
+abbrev pub bound_of : ℕ → ℕ → Option SearchBound
+bound_of zero key = Some AllIncluded
+bound_of (suc zero) key = Some (Included key)
+bound_of (suc (suc zero)) key = Some (Excluded key)
+bound_of (suc (suc (suc kind))) key = None
 
 -- what is asked of the range between two bounds; a bound of no kind is refused, behind a bad arena, as R says
-abbrev pub Spanned : List ℕ → (Range → Type 0) → (Answer → Type 0) → Bound → Bound → Type 0
-Spanned w P R (Known s) (Known e) = P (record { start = s; end = e })
-Spanned w P R (Known s) Unknown = Ends (bad_arena w ∷ no_kind ∷ []) R ⊥
-Spanned w P R Unknown e = Ends (bad_arena w ∷ no_kind ∷ []) R ⊥
+abbrev pub Spanned : List ℕ → (Range → Type 0) → (Answer → Type 0) → Option SearchBound → Option SearchBound → Type 0
+Spanned w P R (Some s) (Some e) = P (record { start = s; end = e })
+Spanned w P R (Some s) None = Ends (bad_arena w ∷ no_kind ∷ []) R ⊥
+Spanned w P R None e = Ends (bad_arena w ∷ no_kind ∷ []) R ⊥
+
+-- the answer a is that of a refused range
+abbrev pub IsRefusal : Result Range Refused → Answer → Type 0
+IsRefusal r a = (why : Refused) × (r ≡ Err why) × (a ≡ refused why)
 
 -- a listing from one bound to another: the arena w, the output o before and o' after, the answer r
-abbrev pub Between : Bound → Bound → List ℕ → List ℕ → List ℕ → Listed → Type 0
+abbrev pub Between : Option SearchBound → Option SearchBound → List ℕ → List ℕ → List ℕ → Listed → Type 0
 Between s e w o o' r = Spanned w (λ q. Listing q w w o o' r) (λ a. (o' ≡ o) × (r ≡ record { answer = a; wrote = 0; more = false })) s e
 
 -- how many pairs lie between two bounds
-abbrev pub CountBetween : Bound → Bound → List ℕ → Counted → Type 0
+abbrev pub CountBetween : Option SearchBound → Option SearchBound → List ℕ → Counted → Type 0
 CountBetween s e w r = Spanned w (λ q. Count q w w r) (λ a. r ≡ record { answer = a; number = 0 }) s e
 
 -- a cursor sought by a start bound: the arena w, the cursor's words u before and u' after
-abbrev pub SeekBy : Bound → ℕ → (w u u' : List ℕ) → Picked → Type 0
-SeekBy (Known b) n w u u' r = Making (Promised (promise.seek n b) w w) u u' r
-SeekBy Unknown n w u u' r = NoBound n w u u' r
+abbrev pub SeekBy : Option SearchBound → ℕ → (w u u' : List ℕ) → Picked → Type 0
+SeekBy (Some b) n w u u' r = Making (Promised (promise.seek n b) w w) u u' r
+SeekBy None n w u u' r = NoBound n w u u' r
 
 -- a number is written out
 pub record Summed (allowed : Counted → Type 0) (number second : ℕ) : Type 0 where

@@ -2,16 +2,17 @@
 // its answer's number; what comes with the number is written through a pointer to one word.
 #![tactic(auto)]
 
-ghost use Rattle.std.specs.Prelude.{◌≡◌, ℕ, false, List};
+ghost use Rattle.std.specs.Prelude.{◌≡◌};
 ghost use Rattle.model.specs.Public.{Promised};
 ghost use Rattle.model.specs.Public as promise;
 ghost use Rattle.batch.specs.Orders.{order_of};
 ghost use Rattle.kept.specs.Kept.{Making, Stepping};
-ghost use Rattle.cuffgarnet.specs.declared.Bound.TheVariants.{Unknown};
-ghost use Rattle.cuffgarnet.specs.Exported.{Numbered, Worded, Told, Summed, Paired, meant_by, bound_of, Between, CountBetween, SeekBy};
+ghost use Rattle.model.specs.Answer.{numbers_of, said_listed, said_counted, said_picked};
+ghost use Rattle.cuffgarnet.specs.Exported.{Numbered, Worded, Told, Summed, Paired, meant_by, bound_of, Spanned, IsRefusal, Between, CountBetween, SeekBy};
 
 use batch::{batch, order};
-use checker::{check, well_formed};
+use checker::check;
+use cursor::Found;
 use cut::cut;
 use format::format;
 use join::join;
@@ -19,16 +20,37 @@ use kept::{keep_first, keep_last, keep_next, keep_none, keep_previous, keep_seek
 use listing::list;
 use load::load;
 use map::{delete, get, put, reserve};
-use model::{Answer, Counted, Listed, Picked, Range, SearchBound};
+use model::{Answer, Counted, Listed, Page, Picked, Range, Refused, SearchBound};
 use ranks::{at, count, rank};
 use restore::restore;
 use upgrade::upgrade;
 
-// A bound asked for by its kind.
-#[derive(Clone, Copy)]
-pub enum Bound {
-    Known(SearchBound),
-    Unknown,
+// Writes an answer's second word out; its number.
+fn hand_word(answer: Answer, second: &mut u64) -> u64
+    ensures number { result ≡ (numbers_of answer).number }
+    ensures word { second.new ≡ (numbers_of answer).word }
+{
+    *second = answer.word();
+    answer.number()
+}
+
+// Writes a number that was told out; the answer's number.
+fn hand_number(counted: Counted, second: &mut u64) -> u64
+    ensures number { result ≡ (numbers_of counted.answer).number }
+    ensures told { second.new ≡ counted.number }
+{
+    *second = counted.number;
+    counted.answer.number()
+}
+
+// Writes a pair out; the answer's number.
+fn hand_pair(picked: Picked, key: &mut u64, value: &mut u64) -> u64
+    ensures number { result ≡ (numbers_of picked.answer).number }
+    ensures key { key.new ≡ picked.key }
+    ensures value { value.new ≡ (numbers_of picked.answer).word }
+{
+    *key = picked.key;
+    hand_word(picked.answer, value)
 }
 
 // Formats the words.
@@ -36,8 +58,7 @@ pub enum Bound {
 pub extern "C" fn cuffgarnet_format(arena: &mut [u64]) -> u64
     ensures { Numbered (Promised promise.format arena.old arena.new tt) result }
 {
-    let made = format(arena);
-    made.number()
+    Answer::from(format(arena)).number()
 }
 
 // Whether the words are a well-formed arena.
@@ -45,8 +66,7 @@ pub extern "C" fn cuffgarnet_format(arena: &mut [u64]) -> u64
 pub extern "C" fn cuffgarnet_check(arena: &[u64]) -> u64
     ensures { Numbered (Promised promise.check arena.now arena.now tt) result }
 {
-    let sound = check(arena);
-    sound.number()
+    Answer::from(check(arena)).number()
 }
 
 // The value of a key.
@@ -54,9 +74,7 @@ pub extern "C" fn cuffgarnet_check(arena: &[u64]) -> u64
 pub extern "C" fn cuffgarnet_get(arena: &[u64], key: u64, second: &mut u64) -> u64
     ensures { Worded (Promised (promise.get key) arena.now arena.now tt) result second.new }
 {
-    let found = get(arena, key);
-    *second = found.word();
-    found.number()
+    hand_word(Answer::found(get(arena, key)), second)
 }
 
 // Puts a pair.
@@ -64,9 +82,7 @@ pub extern "C" fn cuffgarnet_get(arena: &[u64], key: u64, second: &mut u64) -> u
 pub extern "C" fn cuffgarnet_put(arena: &mut [u64], key: u64, value: u64, second: &mut u64) -> u64
     ensures { Worded (Promised (promise.put key value) arena.old arena.new tt) result second.new }
 {
-    let former = put(arena, key, value);
-    *second = former.word();
-    former.number()
+    hand_word(Answer::former(put(arena, key, value)), second)
 }
 
 // Takes the pair of a key out.
@@ -74,9 +90,7 @@ pub extern "C" fn cuffgarnet_put(arena: &mut [u64], key: u64, value: u64, second
 pub extern "C" fn cuffgarnet_delete(arena: &mut [u64], key: u64, second: &mut u64) -> u64
     ensures { Worded (Promised (promise.delete key) arena.old arena.new tt) result second.new }
 {
-    let gone = delete(arena, key);
-    *second = gone.word();
-    gone.number()
+    hand_word(Answer::found(delete(arena, key)), second)
 }
 
 // Spends a key above the mark, with no pair put.
@@ -84,8 +98,7 @@ pub extern "C" fn cuffgarnet_delete(arena: &mut [u64], key: u64, second: &mut u6
 pub extern "C" fn cuffgarnet_reserve(arena: &mut [u64], key: u64) -> u64
     ensures { Numbered (Promised (promise.reserve key) arena.old arena.new tt) result }
 {
-    let handed = reserve(arena, key);
-    handed.number()
+    Answer::from(reserve(arena, key)).number()
 }
 
 // Runs one order by its code.
@@ -99,55 +112,48 @@ pub extern "C" fn cuffgarnet_order(
 ) -> u64
     ensures { Worded (Promised (promise.order (order_of code key value)) arena.old arena.new tt) result second.new }
 {
-    let run = order(arena, code, key, value);
-    *second = run.word();
-    run.number()
+    hand_word(order(arena, code, key, value), second)
 }
 
 // The bound of a kind.
-fn bound_of(kind: u64, key: u64) -> Bound
+fn bound_of(kind: u64, key: u64) -> Option<SearchBound>
     ensures { result ≡ bound_of kind key }
 {
     match kind {
-        0 => Bound::Known(SearchBound::AllIncluded),
-        1 => Bound::Known(SearchBound::Included(key)),
-        2 => Bound::Known(SearchBound::Excluded(key)),
-        _ => Bound::Unknown,
+        0 => Some(SearchBound::AllIncluded),
+        1 => Some(SearchBound::Included(key)),
+        2 => Some(SearchBound::Excluded(key)),
+        _ => None,
     }
 }
 
-// A refused listing.
-fn refused(answer: Answer) -> Listed
-    ensures { result ≡ record { answer = answer; wrote = 0; more = false } }
+// The range between two bounds; one of no kind is refused, behind a bad arena.
+fn range_between(
+    arena: &[u64],
+    start: Option<SearchBound>,
+    end: Option<SearchBound>,
+) -> Result<Range, Refused>
+    ensures { Spanned arena.now (λ q. result ≡ Ok q) (IsRefusal result) start end }
 {
-    Listed {
-        answer,
-        wrote: 0,
-        more: false,
+    match (start, end) {
+        (Some(start), Some(end)) => Ok(Range { start, end }),
+        _ => {
+            check(arena)?;
+            Err(Refused::BadRange)
+        }
     }
-}
-
-// What a bound of no kind gives: a bad arena comes first.
-fn no_kind(arena: &[u64]) -> Listed
-    ensures { (o : List ℕ) → Between Unknown Unknown arena.now o o result }
-{
-    if !well_formed(arena) {
-        return refused(Answer::BadArena);
-    }
-    refused(Answer::BadRange)
 }
 
 // The listing between two bounds.
-fn list_between(arena: &[u64], start: Bound, end: Bound, out: &mut [u64]) -> Listed
-    ensures { Between start end arena.now out.old out.new result }
+fn list_between(
+    arena: &[u64],
+    start: Option<SearchBound>,
+    end: Option<SearchBound>,
+    out: &mut [u64],
+) -> Result<Page, Refused>
+    ensures { Between start end arena.now out.old out.new (said_listed result) }
 {
-    match start {
-        Bound::Unknown => no_kind(arena),
-        Bound::Known(s) => match end {
-            Bound::Unknown => no_kind(arena),
-            Bound::Known(e) => list(arena, Range { start: s, end: e }, out),
-        },
-    }
+    list(arena, range_between(arena, start, end)?, out)
 }
 
 // Lists a range into a lent output.
@@ -164,16 +170,15 @@ pub extern "C" fn cuffgarnet_list(
 ) -> u64
     ensures { Told (Between (bound_of start_kind start) (bound_of end_kind end) arena.now out.old out.new) result written.new more.new }
 {
-    let l = list_between(
+    let listed = Listed::from(list_between(
         arena,
         bound_of(start_kind, start),
         bound_of(end_kind, end),
         out,
-    );
-    *written = l.wrote as u64;
-    *more = l.more as u64;
-    let r = l.answer;
-    r.number()
+    ));
+    *written = listed.wrote as u64;
+    *more = u64::from(listed.more);
+    listed.answer.number()
 }
 
 // Runs a batch of orders.
@@ -181,8 +186,7 @@ pub extern "C" fn cuffgarnet_list(
 pub extern "C" fn cuffgarnet_batch(arena: &mut [u64], orders: &[u64], answers: &mut [u64]) -> u64
     ensures { Numbered (Promised (promise.batch orders.now answers.old) arena.old arena.new answers.new) result }
 {
-    let ran = batch(arena, orders, answers);
-    ran.number()
+    Answer::from(batch(arena, orders, answers)).number()
 }
 
 // Restores an image; the mark stays. An older image is meant where the last word is 1, and not where it is any other.
@@ -190,8 +194,7 @@ pub extern "C" fn cuffgarnet_batch(arena: &mut [u64], orders: &[u64], answers: &
 pub extern "C" fn cuffgarnet_restore(arena: &mut [u64], image: &[u64], older: u64) -> u64
     ensures { Numbered (Promised (promise.restore (meant_by older) image.now) arena.old arena.new tt) result }
 {
-    let restored = restore(arena, image, older == 1);
-    restored.number()
+    Answer::from(restore(arena, image, older == 1)).number()
 }
 
 // How many keys are smaller than a key.
@@ -199,39 +202,18 @@ pub extern "C" fn cuffgarnet_restore(arena: &mut [u64], image: &[u64], older: u6
 pub extern "C" fn cuffgarnet_rank(arena: &[u64], key: u64, second: &mut u64) -> u64
     ensures { Summed (Promised (promise.rank key) arena.now arena.now tt) result second.new }
 {
-    let before = rank(arena, key);
-    *second = before.number;
-    let r = before.answer;
-    r.number()
-}
-
-// What a count between bounds of no kind gives: a bad arena comes first.
-fn no_count(arena: &[u64]) -> Counted
-    ensures { CountBetween Unknown Unknown arena.now result }
-{
-    if !well_formed(arena) {
-        return Counted {
-            answer: Answer::BadArena,
-            number: 0,
-        };
-    }
-    Counted {
-        answer: Answer::BadRange,
-        number: 0,
-    }
+    hand_number(Counted::from(rank(arena, key)), second)
 }
 
 // How many pairs lie between two bounds.
-fn count_between(arena: &[u64], start: Bound, end: Bound) -> Counted
-    ensures { CountBetween start end arena.now result }
+fn count_between(
+    arena: &[u64],
+    start: Option<SearchBound>,
+    end: Option<SearchBound>,
+) -> Result<u64, Refused>
+    ensures { CountBetween start end arena.now (said_counted result) }
 {
-    match start {
-        Bound::Unknown => no_count(arena),
-        Bound::Known(s) => match end {
-            Bound::Unknown => no_count(arena),
-            Bound::Known(e) => count(arena, Range { start: s, end: e }),
-        },
-    }
+    count(arena, range_between(arena, start, end)?)
 }
 
 // How many pairs a range has.
@@ -246,10 +228,8 @@ pub extern "C" fn cuffgarnet_count(
 ) -> u64
     ensures { Summed (CountBetween (bound_of start_kind start) (bound_of end_kind end) arena.now) result second.new }
 {
-    let c = count_between(arena, bound_of(start_kind, start), bound_of(end_kind, end));
-    *second = c.number;
-    let r = c.answer;
-    r.number()
+    let counted = count_between(arena, bound_of(start_kind, start), bound_of(end_kind, end));
+    hand_number(Counted::from(counted), second)
 }
 
 // The pair that so many pairs are before.
@@ -257,11 +237,7 @@ pub extern "C" fn cuffgarnet_count(
 pub extern "C" fn cuffgarnet_at(arena: &[u64], rank: u64, key: &mut u64, value: &mut u64) -> u64
     ensures { Paired (Promised (promise.at rank) arena.now arena.now tt) result key.new value.new }
 {
-    let p = at(arena, rank);
-    *key = p.key;
-    let r = p.answer;
-    *value = r.word();
-    r.number()
+    hand_pair(Picked::from(at(arena, rank)), key, value)
 }
 
 // A cursor at the first pair.
@@ -275,11 +251,7 @@ pub extern "C" fn cuffgarnet_first(
 ) -> u64
     ensures { Paired (Making (Promised (promise.first changes) arena.now arena.now) cursor.old cursor.new) result key.new value.new }
 {
-    let p = keep_first(arena, changes, cursor);
-    *key = p.key;
-    let r = p.answer;
-    *value = r.word();
-    r.number()
+    hand_pair(Picked::from(keep_first(arena, changes, cursor)), key, value)
 }
 
 // A cursor at the last pair.
@@ -293,20 +265,16 @@ pub extern "C" fn cuffgarnet_last(
 ) -> u64
     ensures { Paired (Making (Promised (promise.last changes) arena.now arena.now) cursor.old cursor.new) result key.new value.new }
 {
-    let p = keep_last(arena, changes, cursor);
-    *key = p.key;
-    let r = p.answer;
-    *value = r.word();
-    r.number()
+    hand_pair(Picked::from(keep_last(arena, changes, cursor)), key, value)
 }
 
 // A seek by the kind of its bound.
-fn seek_by(arena: &[u64], changes: u64, start: Bound, cursor: &mut [u64]) -> Picked
-    ensures { SeekBy start changes arena.now cursor.old cursor.new result }
+fn seek_by(arena: &[u64], changes: u64, start: Option<SearchBound>, cursor: &mut [u64]) -> Found
+    ensures { SeekBy start changes arena.now cursor.old cursor.new (said_picked result) }
 {
     match start {
-        Bound::Unknown => keep_none(arena, changes, cursor),
-        Bound::Known(b) => keep_seek(arena, changes, b, cursor),
+        Some(start) => keep_seek(arena, changes, start, cursor),
+        None => keep_none(arena, changes, cursor),
     }
 }
 
@@ -323,11 +291,8 @@ pub extern "C" fn cuffgarnet_seek(
 ) -> u64
     ensures { Paired (SeekBy (bound_of kind bound) changes arena.now cursor.old cursor.new) result key.new value.new }
 {
-    let p = seek_by(arena, changes, bound_of(kind, bound), cursor);
-    *key = p.key;
-    let r = p.answer;
-    *value = r.word();
-    r.number()
+    let found = seek_by(arena, changes, bound_of(kind, bound), cursor);
+    hand_pair(Picked::from(found), key, value)
 }
 
 // The cursor steps to the next pair.
@@ -341,11 +306,7 @@ pub extern "C" fn cuffgarnet_next(
 ) -> u64
     ensures { Paired (Stepping (λ c. Promised (promise.next changes c) arena.now arena.now) cursor.old cursor.new) result key.new value.new }
 {
-    let p = keep_next(arena, changes, cursor);
-    *key = p.key;
-    let r = p.answer;
-    *value = r.word();
-    r.number()
+    hand_pair(Picked::from(keep_next(arena, changes, cursor)), key, value)
 }
 
 // The cursor steps to the pair before.
@@ -359,11 +320,7 @@ pub extern "C" fn cuffgarnet_previous(
 ) -> u64
     ensures { Paired (Stepping (λ c. Promised (promise.previous changes c) arena.now arena.now) cursor.old cursor.new) result key.new value.new }
 {
-    let p = keep_previous(arena, changes, cursor);
-    *key = p.key;
-    let r = p.answer;
-    *value = r.word();
-    r.number()
+    hand_pair(Picked::from(keep_previous(arena, changes, cursor)), key, value)
 }
 
 // Reads a format 1 arena into a second slice.
@@ -371,8 +328,7 @@ pub extern "C" fn cuffgarnet_previous(
 pub extern "C" fn cuffgarnet_upgrade(source: &[u64], target: &mut [u64]) -> u64
     ensures { Numbered (Promised (promise.upgrade source.now) target.old target.new tt) result }
 {
-    let made = upgrade(source, target);
-    made.number()
+    Answer::from(upgrade(source, target)).number()
 }
 
 // Loads a sorted run into words that it formats.
@@ -380,8 +336,7 @@ pub extern "C" fn cuffgarnet_upgrade(source: &[u64], target: &mut [u64]) -> u64
 pub extern "C" fn cuffgarnet_load(arena: &mut [u64], run: &[u64]) -> u64
     ensures { Numbered (Promised (promise.load run.now) arena.old arena.new tt) result }
 {
-    let made = load(arena, run);
-    made.number()
+    Answer::from(load(arena, run)).number()
 }
 
 // Cuts the pairs from a key on off the first arena, into a second slice.
@@ -389,8 +344,7 @@ pub extern "C" fn cuffgarnet_load(arena: &mut [u64], run: &[u64]) -> u64
 pub extern "C" fn cuffgarnet_cut(arena: &mut [u64], key: u64, upper: &mut [u64]) -> u64
     ensures { Numbered (Promised (promise.cut key upper.old) arena.old arena.new upper.new) result }
 {
-    let made = cut(arena, upper, key);
-    made.number()
+    Answer::from(cut(arena, upper, key)).number()
 }
 
 // Joins a second arena to the first; the joined run is written to a third slice.
@@ -398,6 +352,5 @@ pub extern "C" fn cuffgarnet_cut(arena: &mut [u64], key: u64, upper: &mut [u64])
 pub extern "C" fn cuffgarnet_join(first: &mut [u64], second: &mut [u64], run: &mut [u64]) -> u64
     ensures { Numbered (Promised (promise.join second.old run.old) first.old first.new (second.new, run.new)) result }
 {
-    let made = join(first, second, run);
-    made.number()
+    Answer::from(join(first, second, run)).number()
 }

@@ -1,4 +1,4 @@
--- The digits that are printed, the kinds of damage, and the bytes of the tables.
+-- The digits that are printed, and the kinds of damage.
 -- Assumes nothing.
 use Rattle.std.specs.Prelude.{ℕ, ◌+◌, ◌%◌, ◌^◌, cond, List, [], ◌∷◌, ◌==◌}
 use Rattle.model.specs.Layout.{none}
@@ -17,7 +17,3 @@ elsewhere = 0 ∷ 1 ∷ 2 ∷ 3 ∷ 4 ∷ 5 ∷ 6 ∷ 7 ∷ 11 ∷ 12 ∷ none �
 -- what a word v is replaced with: one more, one less, and those
 abbrev pub wrongs : ℕ → List ℕ
 wrongs v = (v + 1) % 2 ^ 64 ∷ (v + largest) % 2 ^ 64 ∷ elsewhere
-
--- a byte is a word, 255 is NONE
-abbrev pub word_of : ℕ → ℕ
-word_of b = cond (b == 255) none b

@@ -7,8 +7,8 @@ ghost use Rattle.empties.specs.Taking.{Taken};
 
 use format::format;
 use map::{delete, put};
+use model::Answer;
 use std::io;
-use std::num::wrapping_add_u64;
 use telling::{around, mix_words, mixed, say, say_line};
 
 // The words of 150 nodes.
@@ -18,22 +18,18 @@ const LONG: usize = 5860;
 const ROUND: u64 = 811;
 
 // The mix so far and the header.
-fn tell(rt: &impl Print, mix: u64, a: &[u64]) -> io::Result<()>
-    requires { length a.now ≡ 5860 }
-{
+fn tell(rt: &impl Print, mix: u64, a: &[u64; LONG]) -> io::Result<()> {
     say(rt, mix)?;
-    say_line(rt, &a[0..10])
+    say_line(rt, &a[..10])
 }
 
 // The keys 1 to `pairs`.
 fn fill(a: &mut [u64], pairs: u64)
     requires { pairs < 811 }
 {
-    format(a);
-    let mut key = 0;
-    while key < pairs {
-        key += 1;
-        put(a, key, key + 1000);
+    let _ = format(a);
+    for key in 1..=pairs {
+        let _ = put(a, key, key + 1000);
     }
 }
 
@@ -41,29 +37,27 @@ fn fill(a: &mut [u64], pairs: u64)
 fn take(a: &mut [u64], key: u64, mix: u64) -> u64
     ensures { Taken key mix a.old a.new result }
 {
-    let r = delete(a, key);
-    mix_words(mixed(mix, wrapping_add_u64(r.number(), r.word())), a)
+    let r = Answer::found(delete(a, key));
+    mix_words(mixed(mix, r.number().wrapping_add(r.word())), a)
 }
 
-fn empty(rt: &impl Print, a: &mut [u64], first: u64, step: u64) -> io::Result<()>
-    requires { (first < 811) × (step < 811) × (length a.old ≡ 5860) }
+fn empty(rt: &impl Print, a: &mut [u64; LONG], first: u64, step: u64) -> io::Result<()>
+    requires { (first < 811) × (step < 811) }
 {
     let mut key = first;
     let mut mix = 0;
-    let mut i = 0u64;
-    while i < 811 {
+    for i in 0..ROUND {
         mix = take(a, key, mix);
         if i % 50 == 0 {
             tell(rt, mix, a)?;
         }
         key = around(key, step, ROUND);
-        i += 1;
     }
     tell(rt, mix, a)
 }
 
-fn run(rt: &impl Print, a: &mut [u64], pairs: u64) -> io::Result<()>
-    requires { (pairs < 811) × (length a.old ≡ 5860) }
+fn run(rt: &impl Print, a: &mut [u64; LONG], pairs: u64) -> io::Result<()>
+    requires { pairs < 811 }
 {
     fill(a, pairs);
     empty(rt, a, 1, 1)?;

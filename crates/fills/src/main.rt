@@ -15,6 +15,13 @@ use telling::{around, say, say_line};
 // The words of 64 nodes.
 const LONG: usize = 2506;
 
+// The number of the answer that there is no room. Stays a number: the clause speaks of it, and a match on the refusal loses, where its arms
+// join, that it was another.
+const NO_ROOM: u64 = 3;
+
+// So many keys are tried at most.
+const TRIES: u64 = 1000;
+
 // The keys are below this prime.
 const ROUND: u64 = 10_007;
 
@@ -29,28 +36,26 @@ fn puts(a: &mut [u64], first: u64, step: u64) -> u64
     ensures { Fills step a.new result first 0 a.old }
 {
     let mut key = first;
-    let mut i = 0;
-    while i < 1000 {
-        let r = put(a, key, i);
-        if r.number() == 3 {
-            break;
+    for i in 0..TRIES {
+        let r = Answer::former(put(a, key, i));
+        if r.number() == NO_ROOM {
+            return i;
         }
         key = around(key, step, ROUND);
-        i += 1;
     }
-    i
+    TRIES
 }
 
 fn fill(rt: &impl Print, a: &mut [u64], first: u64, step: u64) -> io::Result<()>
     requires { (first < 10007) × (step < 10007) }
 {
-    format(a);
+    let _ = format(a);
     say(rt, puts(a, first, step))?;
-    tell(rt, put(a, first, 77))?;
-    tell(rt, put(a, ROUND, 0))?;
-    tell(rt, get(a, first))?;
-    tell(rt, get(a, ROUND))?;
-    tell(rt, check(a))?;
+    tell(rt, Answer::former(put(a, first, 77)))?;
+    tell(rt, Answer::former(put(a, ROUND, 0)))?;
+    tell(rt, Answer::found(get(a, first)))?;
+    tell(rt, Answer::found(get(a, ROUND)))?;
+    tell(rt, Answer::from(check(a)))?;
     println!(rt)?;
     say_line(rt, a)
 }

@@ -3,12 +3,11 @@
 #![tactic(auto)]
 
 ghost use Rattle.std.specs.Prelude.{◌≡◌, ◌+◌, ◌*◌, ◌<◌, ◌≤◌, length};
-ghost use Rattle.ranges.specs.Bounds.{tried_bound};
 
 use format::format;
 use listing::list;
 use map::get;
-use model::{Range, SearchBound};
+use model::{Answer, Listed, Range, SearchBound};
 use node::NONE;
 use std::io;
 use telling::{say, say_line};
@@ -16,98 +15,83 @@ use telling::{say, say_line};
 // The words of fifteen nodes.
 const LONG: usize = 595;
 
-const KEYS: [u64; 6] = [1, 5, 6, 70, 72, 142];
-
-// Lays words over the arena, from `at` on.
-fn lay(a: &mut [u64], at: usize, t: &[u64])
-    requires { at + length t.now ≤ length a.old }
-{
-    let mut i = 0;
-    while i < t.len() {
-        a[at + i] = t[i];
-        i += 1;
-    }
-}
+// The bounds at either end, in the order in which they are tried.
+const BOUNDS: [SearchBound; 13] = [
+    SearchBound::Included(1),
+    SearchBound::Included(5),
+    SearchBound::Included(6),
+    SearchBound::Included(70),
+    SearchBound::Included(72),
+    SearchBound::Included(142),
+    SearchBound::Excluded(1),
+    SearchBound::Excluded(5),
+    SearchBound::Excluded(6),
+    SearchBound::Excluded(70),
+    SearchBound::Excluded(72),
+    SearchBound::Excluded(142),
+    SearchBound::AllIncluded,
+];
 
 // Five pairs in a node, or fewer, the keys in even steps.
-fn pairs(a: &mut [u64], n: usize, len: usize, first: u64, step: u64)
-    requires { (n < 15) × (length a.old ≡ 595) × (len ≤ 5) × (first < 1000) × (step < 100) }
+fn pairs(a: &mut [u64; LONG], n: usize, len: usize, first: u64, step: u64)
+    requires { (n < 15) × (len ≤ 5) × (first < 1000) × (step < 100) }
 {
     let b = 10 + 39 * n;
     let mut key = first;
-    let mut i = 0;
-    while i < len {
+    for i in 0..len {
         a[b + 4 + i] = key;
         a[b + 15 + i] = key + 1000;
         key += step;
-        i += 1;
     }
 }
 
-fn leaf(a: &mut [u64], n: usize, parent: u64, place: u64, first: u64, step: u64)
-    requires { (n < 15) × (length a.old ≡ 595) × (first < 1000) × (step < 100) }
+fn leaf(a: &mut [u64; LONG], n: usize, parent: u64, place: u64, first: u64, step: u64)
+    requires { (n < 15) × (first < 1000) × (step < 100) }
 {
-    lay(a, 10 + 39 * n, &[1, 5, parent, place]);
-    lay(a, 48 + 39 * n, &[5]);
+    let b = 10 + 39 * n;
+    a[b..b + 4].copy_from_slice(&[1, 5, parent, place]);
+    a[b + 38] = 5;
     pairs(a, n, 5, first, step);
 }
 
 // An internal node below the root, with six leaves from node `child` on.
-fn inner(a: &mut [u64], n: usize, place: u64, first: u64, child: usize)
-    requires { (n < 15) × (length a.old ≡ 595) × (first < 100) × (child < 10) }
+fn inner(a: &mut [u64; LONG], n: usize, place: u64, first: u64, child: usize)
+    requires { (n < 15) × (first < 100) × (child < 10) }
 {
-    lay(a, 10 + 39 * n, &[2, 5, 0, place]);
-    lay(a, 48 + 39 * n, &[35]);
+    let b = 10 + 39 * n;
+    a[b..b + 4].copy_from_slice(&[2, 5, 0, place]);
+    a[b + 38] = 35;
     pairs(a, n, 5, first + 10, 12);
-    let mut key = first;
-    let mut j = 0;
-    while j < 6 {
-        lay(a, 36 + 39 * n + j, &[(child + j) as u64]);
-        leaf(a, child + j, n as u64, j as u64, key, 2);
-        key += 12;
-        j += 1;
+    for j in 0..6 {
+        a[b + 26 + j] = (child + j) as u64;
+        leaf(a, child + j, n as u64, j as u64, first + 12 * j as u64, 2);
     }
 }
 
 // The keys 2, 4, .. 142 at three levels.
-fn three_levels(a: &mut [u64])
-    requires { length a.old ≡ 595 }
-{
-    lay(a, 4, &[2, 71, NONE, 0, 1, 142]);
-    lay(a, 10, &[2, 1, NONE, 0]);
+fn three_levels(a: &mut [u64; LONG]) {
+    a[4..10].copy_from_slice(&[2, 71, NONE, 0, 1, 142]);
+    a[10..14].copy_from_slice(&[2, 1, NONE, 0]);
     pairs(a, 0, 1, 72, 0);
-    lay(a, 36, &[1, 2]);
-    lay(a, 48, &[71]);
+    a[36..38].copy_from_slice(&[1, 2]);
+    a[48] = 71;
     inner(a, 1, 0, 2, 3);
     inner(a, 2, 1, 74, 9);
 }
 
 // The keys 3 to 7 in the root.
-fn one_leaf(a: &mut [u64])
-    requires { length a.old ≡ 595 }
-{
-    lay(a, 5, &[5]);
-    lay(a, 8, &[1, 7]);
+fn one_leaf(a: &mut [u64; LONG]) {
+    a[5] = 5;
+    a[8..10].copy_from_slice(&[1, 7]);
     leaf(a, 0, NONE, 0, 3, 1);
-}
-
-fn bound(kind: usize, key: u64) -> SearchBound
-    ensures { result ≡ tried_bound kind key }
-{
-    match kind {
-        0 => SearchBound::Included(key),
-        1 => SearchBound::Excluded(key),
-        _ => SearchBound::AllIncluded,
-    }
 }
 
 // Lists a range into an output, and tells all that is answered and what the output then holds.
 fn tell(rt: &impl Print, a: &[u64], range: Range, out: &mut [u64]) -> io::Result<()> {
-    let r = list(a, range, out);
-    let answer = r.answer;
-    say(rt, answer.number())?;
-    say(rt, r.wrote as u64)?;
-    say(rt, if r.more { 1 } else { 0 })?;
+    let listed = Listed::from(list(a, range, out));
+    let number = listed.answer.number();
+    let more = u64::from(listed.more);
+    print!(rt; "{number} {} {more} ", listed.wrote)?;
     say_line(rt, out)
 }
 
@@ -118,39 +102,25 @@ fn both(rt: &impl Print, a: &[u64], start: SearchBound, end: SearchBound) -> io:
 }
 
 fn ends(rt: &impl Print, a: &[u64], start: SearchBound) -> io::Result<()> {
-    let mut kind = 0;
-    while kind < 2 {
-        let mut i = 0;
-        while i < 6 {
-            both(rt, a, start, bound(kind, KEYS[i]))?;
-            i += 1;
-        }
-        kind += 1;
+    for end in BOUNDS {
+        both(rt, a, start, end)?;
     }
-    both(rt, a, start, SearchBound::AllIncluded)
+    Ok(())
 }
 
 fn starts(rt: &impl Print, a: &[u64]) -> io::Result<()> {
-    let mut kind = 0;
-    while kind < 2 {
-        let mut i = 0;
-        while i < 6 {
-            ends(rt, a, bound(kind, KEYS[i]))?;
-            i += 1;
-        }
-        kind += 1;
+    for start in BOUNDS {
+        ends(rt, a, start)?;
     }
-    ends(rt, a, SearchBound::AllIncluded)
+    Ok(())
 }
 
 // Every key up to 150, in a row of answers.
 fn gets(rt: &impl Print, a: &[u64]) -> io::Result<()> {
-    let mut key = 0;
-    while key < 150 {
-        let r = get(a, key);
+    for key in 0..150 {
+        let r = Answer::found(get(a, key));
         say(rt, r.number())?;
         say(rt, r.word())?;
-        key += 1;
     }
     println!(rt)
 }
@@ -178,11 +148,11 @@ fn all(rt: &impl Print, a: &[u64]) -> io::Result<()> {
 fn main(rt: HostRuntime) -> io::Result<()> {
     let mut a = [7; LONG];
     all(&rt, &a)?;
-    format(&mut a);
+    let _ = format(&mut a);
     all(&rt, &a)?;
     one_leaf(&mut a);
     all(&rt, &a)?;
-    format(&mut a);
+    let _ = format(&mut a);
     three_levels(&mut a);
     all(&rt, &a)
 }

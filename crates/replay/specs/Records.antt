@@ -10,6 +10,8 @@ use Rattle.model.specs.State.{order}
 use Rattle.model.specs.Promise.{Call, Format, Listing}
 use Rattle.batch.specs.Orders.{order_of}
 use Rattle.telling.specs.Numbers.{mix_all}
+use Rattle.replay.specs.declared.Record.{Record}
+use Rattle.replay.specs.declared.Record.TheVariants as what
 
 abbrev pub read_bound : ℕ → ℕ → SearchBound
 read_bound zero key = AllIncluded
@@ -57,6 +59,14 @@ listing_code = 32
 
 abbrev pub fork_code : ℕ
 fork_code = 64
+
+-- what a record's three words w say
+abbrev pub Says : (ℕ × ℕ × ℕ) → Record → Type 0
+Says w what.Format = w.0 ≡ format_code
+Says w what.Tell = w.0 ≡ tell_code
+Says w (what.Listing q) = (w.0 / 16 ≡ listing_code) × (q ≡ read_range w.0 w.1 w.2)
+Says w (what.Fork q) = (w.0 / 16 ≡ fork_code) × (q ≡ read_range w.0 w.1 w.2)
+Says w (what.Order code k v) = (w ≡ (code, k, v)) × (w.0 ≡ format_code → ⊥) × (w.0 ≡ tell_code → ⊥) × (w.0 / 16 ≡ listing_code → ⊥) × (w.0 / 16 ≡ fork_code → ⊥)
 
 -- a record's three words, the mix before it and r after it, the words w before and w' after: they are mixed in where they may have changed
 pub data Replays (code k v mix : ℕ) (w w' : List ℕ) (r : ℕ) : Type 0 where

@@ -3,26 +3,20 @@
 // btree code: oracle/README.md says how, and oracle/src/replay.rs what each record is.
 #![tactic(auto)]
 
-ghost use Rattle.std.specs.Prelude.{◌≡◌, ℕ, ◌+◌, ◌≤◌, length, IfOk, OnErr};
-ghost use Rattle.replay.specs.Records.{ListingMixed, Replays, read_bound, bound_key, bound_kind, read_range};
+ghost use Rattle.std.specs.Prelude.{◌≡◌, ℕ, IfOk, OnErr};
+ghost use Rattle.replay.specs.Records.{ListingMixed, Replays, Says, read_bound, bound_key, bound_kind, read_range};
 
 use batch::order;
-use checker::well_formed;
+use checker::check;
 use format::format;
 use listing::list;
-use model::{Answer, Range, SearchBound};
+use model::{Answer, Listed, Range, SearchBound};
 use search::{Handle, Parting, search_tree_for_bifurcation};
 use std::io;
-use telling::{mix_words, read_full, say, say_answer, say_last, say_words, word_at};
+use telling::{RECORD, each_record, mix_words, say, say_answer, say_last, say_words, word_at};
 
 // The words of 150 nodes.
 const LONG: usize = 5860;
-
-// The bytes of a record.
-const RECORD: usize = 24;
-
-// So many records are read at most: years of them.
-const TURNS: u64 = 1_000_000_000_000_000;
 
 // The codes of records that are no orders; those of listings and forks have the kinds of both bounds in their lowest four bits.
 const FORMAT: u64 = 256;
@@ -32,6 +26,31 @@ const LISTING: u64 = 512;
 const FORK: u64 = 1024;
 
 const TELL: u64 = 2048;
+
+// What a record asks for.
+#[derive(Clone, Copy)]
+enum Record {
+    Format,
+    Listing(Range),
+    Fork(Range),
+    Tell,
+    Order(u64, u64, u64),
+}
+
+// Of its three words.
+impl From<(u64, u64, u64)> for Record {
+    ghost from_gives = { Says };
+
+    fn from((code, k, v): (u64, u64, u64)) -> Record {
+        match code {
+            FORMAT => Record::Format,
+            TELL => Record::Tell,
+            _ if code / 16 == LISTING / 16 => Record::Listing(range_of(code, k, v)),
+            _ if code / 16 == FORK / 16 => Record::Fork(range_of(code, k, v)),
+            _ => Record::Order(code, k, v),
+        }
+    }
+}
 
 // A bound of its kind.
 fn bound(kind: u64, key: u64) -> SearchBound
@@ -54,25 +73,15 @@ fn range_of(code: u64, k: u64, v: u64) -> Range
     Range { start, end }
 }
 
-fn kind(b: SearchBound) -> u64
-    ensures { result ≡ bound_kind b }
+// A bound's kind and its key, 0 where it has none.
+fn spelled(b: SearchBound) -> (u64, u64)
+    ensures { result ≡ (bound_kind b, bound_key b) }
 {
     match b {
-        SearchBound::AllIncluded => 0,
-        SearchBound::Included(k) => 1,
-        SearchBound::Excluded(k) => 2,
-        SearchBound::AllExcluded => 3,
-    }
-}
-
-fn key(b: SearchBound) -> u64
-    ensures { result ≡ bound_key b }
-{
-    match b {
-        SearchBound::Included(k) => k,
-        SearchBound::Excluded(k) => k,
-        SearchBound::AllIncluded => 0,
-        SearchBound::AllExcluded => 0,
+        SearchBound::AllIncluded => (0, 0),
+        SearchBound::Included(k) => (1, k),
+        SearchBound::Excluded(k) => (2, k),
+        SearchBound::AllExcluded => (3, 0),
     }
 }
 
@@ -82,107 +91,87 @@ fn listing(rt: &impl Print, a: &[u64], range: Range, mix: u64) -> io::Result<u64
     ensures err { OnErr result ((now : ℕ) × ListingMixed range mix a.now now) }
 {
     let mut out = [9; 17];
-    let r = list(a, range, &mut out);
-    let answer = r.answer;
-    say(rt, answer.number())?;
-    say(rt, r.wrote as u64)?;
-    say(rt, if r.more { 1 } else { 0 })?;
+    let listed = Listed::from(list(a, range, &mut out));
     let now = mix_words(mix, &out);
-    say_last(rt, now)?;
+    let number = listed.answer.number();
+    let more = u64::from(listed.more);
+    println!(rt; "{number} {} {more} {now}", listed.wrote)?;
     Ok(now)
 }
 
 // Node, both edges and the children's bounds; or node and edge.
 fn say_fork(rt: &impl Print, f: Result<Parting, Handle>) -> io::Result<()> {
     match f {
-        Err(edge) => {
-            let node = edge.node;
-            let at = edge.at;
-            say(rt, node.0 as u64)?;
-            say_last(rt, at.0 as u64)
-        }
-        Ok(p) => {
-            let node = p.node;
-            let lower = p.lower;
-            let upper = p.upper;
-            let bounds = p.bounds;
-            let start = bounds.start;
-            let end = bounds.end;
-            say(rt, node.0 as u64)?;
-            say(rt, lower.0 as u64)?;
-            say(rt, upper.0 as u64)?;
-            say(rt, kind(start))?;
-            say(rt, key(start))?;
-            say(rt, kind(end))?;
-            say_last(rt, key(end))
+        Err(edge) => println!(rt; "{} {}", edge.node.0, edge.at.0),
+        Ok(parted) => {
+            let (start, first) = spelled(parted.bounds.start);
+            let (end, last) = spelled(parted.bounds.end);
+            println!(rt; "{} {} {} {start} {first} {end} {last}", parted.node.0, parted.lower.0, parted.upper.0)
         }
     }
 }
 
 // Where the edges of a range part, or the leaf edge where they do not.
 fn fork(rt: &impl Print, a: &[u64], range: Range) -> io::Result<()> {
-    if !well_formed(a) {
-        return say_answer(rt, Answer::BadArena);
+    match check(a) {
+        Ok(()) => say_fork(rt, search_tree_for_bifurcation(a, range)),
+        Err(refusal) => say_answer(rt, Answer::from(refusal)),
     }
-    say_fork(rt, search_tree_for_bifurcation(a, range))
 }
 
 // The mix so far and the header.
-fn tell(rt: &impl Print, mix: u64, a: &[u64]) -> io::Result<()>
-    requires { length a.now ≡ 5860 }
-{
+fn tell(rt: &impl Print, mix: u64, a: &[u64; LONG]) -> io::Result<()> {
     say(rt, mix)?;
-    say_words(rt, &a[0..9])?;
+    say_words(rt, &a[..9])?;
     say_last(rt, a[9])
 }
 
 // One record; the mix after it. Where it can't be told, it is done all the same.
-fn run(rt: &impl Print, a: &mut [u64], code: u64, k: u64, v: u64, mix: u64) -> io::Result<u64>
-    requires { length a.old ≡ 5860 }
+fn run(
+    rt: &impl Print,
+    a: &mut [u64; LONG],
+    code: u64,
+    k: u64,
+    v: u64,
+    mix: u64,
+) -> io::Result<u64>
     ensures ok { IfOk result (λ now. Replays code k v mix a.old a.new now) }
     ensures err { OnErr result ((now : ℕ) × Replays code k v mix a.old a.new now) }
 {
-    if code == FORMAT {
-        say_answer(rt, format(a))?;
-        return Ok(mix_words(mix, a));
+    match Record::from((code, k, v)) {
+        Record::Format => {
+            say_answer(rt, Answer::from(format(a)))?;
+            Ok(mix_words(mix, a))
+        }
+        Record::Listing(range) => listing(rt, a, range, mix),
+        Record::Fork(range) => {
+            fork(rt, a, range)?;
+            Ok(mix)
+        }
+        Record::Tell => {
+            tell(rt, mix, a)?;
+            Ok(mix)
+        }
+        Record::Order(code, k, v) => {
+            say_answer(rt, order(a, code, k, v))?;
+            Ok(mix_words(mix, a))
+        }
     }
-    if code == TELL {
-        tell(rt, mix, a)?;
-        return Ok(mix);
-    }
-    let range = range_of(code, k, v);
-    if code / 16 == LISTING / 16 {
-        return listing(rt, a, range, mix);
-    }
-    if code / 16 == FORK / 16 {
-        fork(rt, a, range)?;
-        return Ok(mix);
-    }
-    say_answer(rt, order(a, code, k, v))?;
-    Ok(mix_words(mix, a))
 }
 
-// All records to the end of the input.
-fn run_all(rt: &(impl Input + Print), a: &mut [u64]) -> io::Result<()>
-    requires { length a.old ≡ 5860 }
-{
-    let mut input = rt.reader();
-    let mut b = [0u8; RECORD];
+// All records to the end of the input; a short last one is none.
+fn run_all(rt: &(impl Input + Print), a: &mut [u64; LONG]) -> io::Result<()> {
     let mut mix = 0;
-    let mut turns = TURNS;
-    while turns > 0 {
-        let n = read_full(&mut input, &mut b)?;
-        if n < RECORD {
-            return Ok(());
+    each_record(&mut rt.reader(), |b| {
+        if b.len() == RECORD {
+            mix = run(rt, a, word_at(b, 0), word_at(b, 8), word_at(b, 16), mix)?;
         }
-        mix = run(rt, a, word_at(&b, 0), word_at(&b, 8), word_at(&b, 16), mix)?;
-        turns -= 1;
-    }
-    Ok(())
+        Ok(())
+    })
 }
 
 fn main(rt: HostRuntime) -> io::Result<()> {
     let mut a = [0; LONG];
-    format(&mut a);
+    let _ = format(&mut a);
     run_all(&rt, &mut a)
 }

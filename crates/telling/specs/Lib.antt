@@ -1,3 +1,4 @@
 -- The files of this crate's definitions.
 -- Assumes nothing.
 pub mod Numbers
+pub mod Records

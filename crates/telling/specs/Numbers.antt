@@ -1,6 +1,6 @@
 -- A word in bytes, the lowest first, and all words of a slice mixed into one number.
 -- Assumes nothing.
-use Rattle.std.specs.Prelude.{ℕ, ◌+◌, ◌-◌, ◌*◌, ◌%◌, ◌^◌, cond, List, [], ◌∷◌, nat_le, slice_index}
+use Rattle.std.specs.Prelude.{ℕ, ◌+◌, ◌-◌, ◌*◌, ◌%◌, ◌^◌, cond, List, fold, nat_le, slice_index}
 
 -- four bytes from `at` on
 abbrev pub half_in : List ℕ → ℕ → ℕ
@@ -14,8 +14,7 @@ abbrev pub mix_of : ℕ → ℕ → ℕ
 mix_of mix w = (31 * mix + w) % 2 ^ 64
 
 abbrev pub mix_all : ℕ → List ℕ → ℕ
-mix_all mix [] = mix
-mix_all mix (w ∷ ws) = mix_all (mix_of mix w) ws
+mix_all = fold mix_of
 
 -- the key `step` after one, round and round
 abbrev pub around_of : ℕ → ℕ → ℕ → ℕ

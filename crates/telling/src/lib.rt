@@ -2,17 +2,22 @@
 // Where a writing fails, part of its text may have been written; nothing else has changed.
 #![tactic(auto)]
 
-ghost use Rattle.std.specs.Prelude.{◌≡◌, ◌+◌, ◌*◌, ◌%◌, ◌^◌, ◌<◌, ◌≤◌, length, take, IfOk};
-ghost use Rattle.std.specs.Counts.{IsPrefixLen};
+ghost use Rattle.std.specs.Prelude.{◌≡◌, ◌+◌, ◌*◌, ◌%◌, ◌^◌, ◌<◌, ◌≤◌, length, take, IfOk, OnOk};
 ghost use Rattle.std.specs.Io.{ReadsAtMost};
 ghost use Rattle.std.specs.Io.KnownBytes.{Consumes, IsAtEnd};
-ghost use Rattle.telling.specs.Numbers.{half_in, word_in, mix_of, mix_all, around_of};
+ghost use Rattle.std.specs.Fn.{CalledAt};
+ghost use Rattle.telling.specs.Records.{Handed};
+ghost use Rattle.telling.specs.Numbers.{word_in, mix_of, mix_all, around_of};
 
-use itoa::Buffer;
 use model::Answer;
 use std::io;
 use std::io::Read;
-use std::num::{wrapping_add_u64, wrapping_sub_u64};
+
+// The bytes of a record.
+pub const RECORD: usize = 24;
+
+// So many records are read at most: years of them.
+const TURNS: u64 = 1_000_000_000_000_000;
 
 // A number and a space.
 pub fn say(rt: &impl Print, n: u64) -> io::Result<()> {
@@ -24,53 +29,17 @@ pub fn say_last(rt: &impl Print, n: u64) -> io::Result<()> {
     println!(rt; "{n}")
 }
 
-// A number of digits, of which a word has 20 at most.
-fn few(k: usize) -> usize
-    ensures { (result ≤ k) × (result ≤ 20) }
-{
-    if k < 20 { k } else { 20 }
-}
-
-// Puts a number's digits into a line from `at` on; where they end.
-fn put_number(line: &mut [u8], at: usize, n: u64) -> usize
-    requires { at + 20 ≤ length line.old }
-    ensures { result ≤ at + 20 }
-{
-    let mut digits = Buffer::new();
-    let text = digits.format(n).as_bytes();
-    let k = few(text.len());
-    let mut i = 0;
-    while i < k {
-        line[at + i] = text[i];
-        i += 1;
-    }
-    at + k
-}
-
-// Puts an answer's number and second word into a line of spaces, and the line's end behind them; how long it is.
-fn put_answer(line: &mut [u8], r: Answer) -> usize
-    requires { 42 ≤ length line.old }
-    ensures { IsPrefixLen result line.new }
-{
-    let middle = put_number(line, 0, r.number());
-    let end = put_number(line, middle + 1, r.word());
-    line[end] = b'\n';
-    end + 1
-}
-
 // A line with an answer's number and second word, by one write.
 pub fn say_answer(rt: &impl Print, r: Answer) -> io::Result<()> {
-    let mut line = [b' '; 42];
-    let k = put_answer(&mut line, r);
-    rt.write_all(&line[..k])
+    let number = r.number();
+    let word = r.word();
+    println!(rt; "{number} {word}")
 }
 
 // Each word and a space.
 pub fn say_words(rt: &impl Print, a: &[u64]) -> io::Result<()> {
-    let mut i = 0;
-    while i < a.len() {
-        say(rt, a[i])?;
-        i += 1;
+    for word in a {
+        say(rt, *word)?;
     }
     Ok(())
 }
@@ -99,22 +68,24 @@ pub fn read_full<R: Read>(input: &mut R, buf: &mut [u8]) -> io::Result<usize>
     Ok(done)
 }
 
-fn wide(x: u8) -> u64
-    ensures { (result ≡ x) × (result < 256) }
+// Reads records and hands each on, the last one short: what is left where the input ends, nothing if need be. Where a reading or what takes
+// the records fails, it stops there.
+pub fn each_record<R: Read, F: FnMut(&[u8]) -> io::Result<()>>(
+    input: &mut R,
+    mut take: F,
+) -> io::Result<()>
+    requires { F.IsAlwaysCallable take }
+    ensures { OnOk result ((last : F) × Handed (λ s t b. Consumes (R.remaining s) (R.remaining t) b) (λ t. IsAtEnd (R.remaining t)) (λ p b q. CalledAt F.FnMut p b (Ok tt) q) input.new last 0 input.old take) }
 {
-    x as u64
-}
-
-// Four bytes, the lowest first.
-fn half_at(b: &[u8], at: usize) -> u64
-    requires { at + 4 ≤ length b.now }
-    ensures { (result ≡ half_in b.now at) × (result < 4294967296) }
-{
-    let x = wide(b[at]);
-    let y = wide(b[at + 1]);
-    let z = wide(b[at + 2]);
-    let t = wide(b[at + 3]);
-    x + 256 * y + 65536 * z + 16777216 * t
+    let mut b = [0u8; RECORD];
+    for i in 0..TURNS {
+        let n = read_full(input, &mut b)?;
+        take(&b[..n])?;
+        if n < RECORD {
+            return Ok(());
+        }
+    }
+    Ok(())
 }
 
 // A word's worth of bytes, the lowest first.
@@ -122,36 +93,22 @@ pub fn word_at(b: &[u8], at: usize) -> u64
     requires { at + 8 ≤ length b.now }
     ensures { result ≡ word_in b.now at }
 {
-    let low = half_at(b, at);
-    let high = half_at(b, at + 4);
-    low + 4294967296 * high
-}
-
-fn twice(x: u64) -> u64
-    ensures { result ≡ (x + x) % 2 ^ 64 }
-{
-    wrapping_add_u64(x, x)
+    let word: [u8; 8] = b[at..at + 8].try_into().unwrap();
+    u64::from_le_bytes(word)
 }
 
 // 31 times the number so far, and the word.
 pub fn mixed(mix: u64, w: u64) -> u64
     ensures { result ≡ mix_of mix w }
 {
-    let many = twice(twice(twice(twice(twice(mix)))));
-    wrapping_add_u64(wrapping_sub_u64(many, mix), w)
+    mix.wrapping_mul(31).wrapping_add(w)
 }
 
 // All words mixed into the number so far.
 pub fn mix_words(so_far: u64, a: &[u64]) -> u64
     ensures { result ≡ mix_all so_far a.now }
 {
-    let mut mix = so_far;
-    let mut i = 0;
-    while i < a.len() {
-        mix = mixed(mix, a[i]);
-        i += 1;
-    }
-    mix
+    a.iter().fold(so_far, |mix, w| mixed(mix, *w))
 }
 
 // The key `step` after one, round and round.

@@ -1,19 +1,7 @@
 -- `batch::order` meets its contract.
 -- Assumes nothing.
-use Rattle.model.specs.WellFormed.{WellFormed}
-use Rattle.model.proofs.Ends.{call_refused, call_done}
-use Rattle.inspect.proofs.Decisions.{decided, refuted}
+use Rattle.model.proofs.Ends.{call_done}
 use Rattle.batch.proofs.order.Goals as goal
-use Rattle.batch.proofs.order.Goals.{Else-not-well_formed}
 
-formed : (c : Else-not-well_formed) → WellFormed c.args.a.now
-formed c = decided c.well_formed-2.result c.well_formed-2.ensures c.if-not-well_formed.false
-
-pub returns-then-not-well_formed : goal.returns-then-not-well_formed
-returns-then-not-well_formed c = call_refused _ (refuted c.well_formed-2.result c.well_formed-2.ensures c.if-not-well_formed.true)
-
-pub run-requires : goal.run-requires
-run-requires c = formed (goal.at.run-requires c).Else-not-well_formed
-
-pub returns : goal.returns
-returns c = call_done _ (formed (goal.at.returns c).Else-not-well_formed) c.run.ensures
+pub returns-in-Ok : goal.returns-in-Ok
+returns-in-Ok c = call_done _ c.in-Ok.ensures.ok c.run.ensures

@@ -1,6 +1,7 @@
 -- `cuffgarnet::cuffgarnet_get` meets its contract.
 -- Assumes nothing.
+use Rattle.cuffgarnet.proofs.Told.{worded}
 use Rattle.cuffgarnet.proofs.cuffgarnet_get.Goals as goal
 
 pub returns : goal.returns
-returns c = let d = c.get-found in record { answer = d.result; given = d.ensures; number_is = c.number.ensures; second_is = c.word.ensures }
+returns c = worded c.get.ensures c.found.ensures c.hand_word.ensures.number c.hand_word.ensures.word

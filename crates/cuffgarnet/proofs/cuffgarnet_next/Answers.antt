@@ -1,7 +1,7 @@
 -- `cuffgarnet::cuffgarnet_next` meets its contract.
 -- Assumes nothing.
-use mathlib.Core.Path.{refl}
+use Rattle.cuffgarnet.proofs.Told.{paired}
 use Rattle.cuffgarnet.proofs.cuffgarnet_next.Goals as goal
 
 pub returns : goal.returns
-returns c = let d = c.keep_next-p in record { picked = d.result; given = d.ensures; number_is = c.number.ensures; key_is = refl; value_is = c.word.ensures }
+returns c = paired c.keep_next.ensures c.from.ensures c.hand_pair.ensures.number c.hand_pair.ensures.key c.hand_pair.ensures.value

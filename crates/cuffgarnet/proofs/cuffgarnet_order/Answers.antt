@@ -1,6 +1,8 @@
 -- `cuffgarnet::cuffgarnet_order` meets its contract.
 -- Assumes nothing.
+use Rattle.cuffgarnet.proofs.Told.{worded}
+use Rattle.std.proofs.Common.{refl}
 use Rattle.cuffgarnet.proofs.cuffgarnet_order.Goals as goal
 
 pub returns : goal.returns
-returns c = let d = c.order-run in record { answer = d.result; given = d.ensures; number_is = c.number.ensures; second_is = c.word.ensures }
+returns c = worded c.order.ensures refl c.hand_word.ensures.number c.hand_word.ensures.word

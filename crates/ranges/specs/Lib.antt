@@ -1,3 +1,0 @@
--- The files of this crate's definitions.
--- Assumes nothing.
-pub mod Bounds
