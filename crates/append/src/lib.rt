@@ -58,6 +58,7 @@ pub struct Opening {
 }
 
 // The lowest node above a full leaf that has room; if there is none, a new root.
+// Stays a loop: it climbs to the node that it looks for, and the levels below that are its answer.
 fn open_node(a: &mut [u64], leaf: NodeNo) -> Opening
     requires { pushes.RisingIn a.old leaf.0 1 }
     ensures { (g : Rest) (p : Pair) (t : load.Loading) → pushes.Rising a.old g leaf.0 1 p t → pushes.Roomy a.new g result.node.0 result.levels p t }
@@ -81,6 +82,7 @@ fn open_node(a: &mut [u64], leaf: NodeNo) -> Opening
 }
 
 // Puts a pair behind the `count` pairs of a node that has room.
+// Stays beside leaf::insert_fit, which moves the rest of both columns up by a word and reads the count: this runs for each pair of a load.
 fn push_pair(a: &mut [u64], n: NodeNo, count: usize, kv: Kv)
     requires { Has a.old (λ h ns. RoomAt ns n.0 count) × (count ≡ word_at a.old n.0 length_word) }
     ensures { (h : List ℕ) (ns : List NodeVal) → RoomAt ns n.0 count → Arena a.old h ns → Arena a.new h (insert_pair ns n.0 count (pair_of kv)) }

@@ -9,7 +9,7 @@ use lib.ListN.{length, get_or, set}
 use Rattle.model.specs.Lists.{All}
 use Rattle.model.specs.Layout.{header_size, pairs_word, seen_word, mark_word, header, root_word, height_word, NodeVal, Arena}
 use Rattle.model.specs.Tree.{Pair, Tree, top, Whole, plug}
-use Rattle.model.specs.Mark.{Mark, Covers, unseen, seen, seen_of, mark_of}
+use Rattle.model.specs.Mark.{Mark, Covers, unseen, seen}
 use Rattle.model.specs.Sound.{Sound, RootFull}
 use Rattle.model.specs.State.{formatted, list}
 use Rattle.model.specs.Words.{words_of}

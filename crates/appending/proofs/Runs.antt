@@ -16,7 +16,7 @@ use Rattle.model.proofs.Held.{held_of}
 use Rattle.standing.specs.Heads.{Rest, rest_of, ClosedBy, Uncounted}
 use Rattle.standing.proofs.Scenes.{closed_of}
 use Rattle.fix.proofs.Holes.{hole_long}
-use Rattle.model.specs.Load.{Loading, opened, climb, push, push_all, begun, pairs_of, Even}
+use Rattle.model.specs.Load.{Loading, opened, climb, push, push_all, begun, pairs_of}
 use Rattle.model.specs.Room.{nodes_for}
 use borrow.Author.Tests.{le-leb, lt-leb}
 use Rattle.model.specs.Insert.{is_full}
@@ -98,23 +98,6 @@ module _ (size : ℕ) (run : List ℕ) (j : ℕ) (room : nodes_for (length (pair
   turn_room =
       let e = ap (λ (l : Loading). l.next) turn_is ∙ load_nodes (pairs_of (take (j + j + 2) run)) in
       omega (arith, e, nodes_more (length (pairs_of (take (j + j + 2) run))) (length (pairs_of run)) (pairs_few (j + j + 2) run))
-
--- at an even place
-module _ (size : ℕ) (run : List ℕ) (i : ℕ) (v : Even i) (room : nodes_for (length (pairs_of run)) ≤ size) (inside : i + 2 ≤ length run) where
-  at_half : v.half + v.half + 2 ≤ length run
-  at_half = omega (arith, v.is)
-
-  pub even_turn : push (pair_at run i) (push_all (pairs_of (take i run)) begun) ≡ push_all (pairs_of (take (i + 2) run)) begun
-  even_turn = subst (λ (k : ℕ). push (pair_at run k) (push_all (pairs_of (take k run)) begun) ≡ push_all (pairs_of (take (k + 2) run)) begun) (sym v.is) (turn_is size run v.half room at_half)
-
-  pub even_room : (push (pair_at run i) (push_all (pairs_of (take i run)) begun)).next ≤ size
-  even_room = subst (λ (k : ℕ). (push (pair_at run k) (push_all (pairs_of (take k run)) begun)).next ≤ size) (sym v.is) (turn_room size run v.half room at_half)
-
-pub even_inside : (i n : ℕ) → Even i → Even n → i < n → i + 2 ≤ n
-even_inside i n v u l = omega (arith, v.is, u.is)
-
-pub even_more : (i : ℕ) → Even i → Even (i + 2)
-even_more i v = record { half = suc v.half; is = omega (arith, v.is) }
 
 pub load_long : {w : List ℕ} {g : Rest} {leaf : ℕ} {l : Loading} → LoadIn w g leaf l → length w ≡ base g.size
 load_long {l = l} o = hole_long top (plug l.way tt).root _ o.held

@@ -95,7 +95,8 @@ impl BalancingContext {
     }
 
     // Moves `count` pairs from the right child to the left one, through the parent's pair.
-    // Stays beside bulk_steal_left, as in the Rust: the words move by other calls, in another order, so no argument tells the two apart.
+    // Stays beside bulk_steal_left, as the Rust's own pair: the words move by other calls, in another order, so one function for both sides
+    // would be two bodies under a match, and no plainer.
     pub fn bulk_steal_right(self, a: &mut [u64], count: usize)
         requires { Has a.old (λ h ns. StealReady ns self.parent.0 self.at.0 self.left.0 self.right.0 self.right.0 self.left.0 count) }
         ensures { (h : List ℕ) (ns : List NodeVal) → StealReady ns self.parent.0 self.at.0 self.left.0 self.right.0 self.right.0 self.left.0 count → Arena a.old h ns → Arena a.new h (move_nodes ns self.parent.0 self.at.0 self.left.0 self.right.0 (length (nth ns self.left.0).pairs + count)) }

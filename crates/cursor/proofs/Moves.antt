@@ -1,12 +1,6 @@
 -- The steps of the code as the moves of the model's cursor.
 -- Assumes nothing.
-use Prim.Native.Nat.{ℕ, zero, suc, ◌+◌, ◌≤◌, ◌<◌}
-use native.Mathlib.Omega.{arith}
-use mathlib.Core.Path.{◌≡◌, refl, sym, ap, ◌∙◌, subst}
-use mathlib.Core.Logic.{inl, inr}
-use mathlib.Core.List.{List, [], ◌∷◌}
 use mathlib.Core.Option as model
-use lib.ListN.{length}
 use Rattle.model.specs.declared.Answer.TheVariants.{Value}
 use Rattle.model.specs.declared.Picked.{Picked}
 use Rattle.model.specs.declared.Refused.{Refused}
@@ -32,7 +26,7 @@ use Rattle.node.specs.declared.NodeNo.{NodeNo}
 use Rattle.node.specs.declared.Place.{Place}
 use Rattle.search.specs.declared.Handle.{Handle}
 use Rattle.search.specs.Results.{leaf_edge}
-use Rattle.std.proofs.Common.{Option, Some, None, Ok, Err}
+use Rattle.std.proofs.Common.{Option, Some, None, Ok, Err, ℕ, zero, suc, ◌+◌, ◌≤◌, ◌<◌, arith, ◌≡◌, refl, sym, ap, ◌∙◌, subst, inl, inr, List, [], ◌∷◌, length}
 use Rattle.navigate.specs.Places.{InTree, EdgeAt, KvAt, stepped}
 use Rattle.navigate.proofs.Pairs.{step_placed, kv_within, kv_key, kv_val}
 use Rattle.navigate.proofs.Steps.{climb_top}

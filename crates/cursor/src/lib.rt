@@ -67,6 +67,7 @@ fn from_start(a: &[u64], start: SearchBound) -> Moved
 }
 
 // To the last pair: behind it is the edge of a bound that admits none.
+// Stays beside from_start, as step_back beside step_on and previous beside next: each way has the Rust's own steps, and one function over both would be a switch.
 fn from_end(a: &[u64]) -> Moved
     requires { WellFormed a.now }
     ensures { (s : State) → Holds a.now s → (n : ℕ) → moved_of n result ≡ on.last n s }

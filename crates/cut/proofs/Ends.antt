@@ -1,13 +1,7 @@
 -- How a cut ends: each refusal under its condition, or done.
 -- Assumes nothing.
-use Prim.Native.Nat.{ℕ, ◌+◌, ◌-◌, ◌≤◌, ◌<◌}
-use native.Mathlib.Omega.{arith}
-use mathlib.Core.Path.{◌≡◌, refl, sym, ap, ◌∙◌, subst}
-use mathlib.Core.Logic.{inl, inr}
-use mathlib.Core.List.{List}
-use lib.Dec.{lit<}
-use lib.ListN.{length, length-append}
-use Rattle.model.specs.declared.Answer.TheVariants.{Done, NoRoom, BadArena, BadSize}
+use Rattle.std.proofs.Common.{ℕ, ◌+◌, ◌-◌, ◌≤◌, ◌<◌, arith, ◌≡◌, refl, sym, ap, ◌∙◌, subst, inl, inr, List, lit<, length, length-append}
+use Rattle.model.specs.declared.Answer.TheVariants.{Done, NoRoom}
 use Rattle.model.specs.Layout.{Sized, header, pairs_word}
 use Rattle.model.specs.Tree.{before, after}
 use Rattle.model.specs.State.{State}
@@ -15,7 +9,6 @@ use Rattle.model.specs.Load.{loaded_with}
 use Rattle.model.specs.Room.{nodes_for}
 use Rattle.model.specs.Parting.{path_of, cut_off, part_off}
 use Rattle.model.specs.Words.{words_of}
-use Rattle.model.specs.WellFormed.{WellFormed}
 use Rattle.model.specs.Promise.{Holds, AnyCount, Exceeds, Cut}
 use Rattle.model.proofs.Backward.{backward}
 use Rattle.model.proofs.Header.{header_is}
@@ -35,15 +28,9 @@ module _ (k : ℕ) {w : List ℕ} {s : State} (o : Holds w s) (p r : ℕ) (q : p
   part_pairs = omega (arith, all_pairs)
 
 module _ (k : ℕ) (w v : List ℕ) where
-  pub bad_size : (AnyCount (length v) → ⊥) → Cut k w w v v BadSize
-  bad_size b = inl (b, (refl, refl, refl))
-
   module _ (n : ℕ) (z : Sized n (length v)) where
     sized : (AnyCount (length v) → ⊥) → ⊥
     sized b = b (record { count = n; sized = z })
-
-    pub bad_arena : (WellFormed w → ⊥) → Cut k w w v v BadArena
-    bad_arena b = inr (sized, inl (b, (refl, refl, refl)))
 
     module _ {s : State} (o : Holds w s) (pairs : ℕ) (e : pairs ≡ length (part_off k s)) where
       pub no_nodes : n < nodes_for pairs → Cut k w w v v NoRoom

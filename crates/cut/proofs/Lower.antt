@@ -1,8 +1,6 @@
 -- What stays is short on the right border only, and repaired it is the model's.
 -- Assumes nothing.
-use Prim.Native.Nat.{ℕ}
-use mathlib.Core.Path.{◌≡◌, sym, ap, ◌∙◌, subst}
-use mathlib.Core.List.{List, ◌++◌}
+use Rattle.std.proofs.Common.{ℕ, ◌≡◌, sym, ap, ◌∙◌, subst, List, ◌++◌}
 use Rattle.model.specs.Lists.{All}
 use Rattle.model.specs.Tree.{Pair, after}
 use Rattle.model.specs.Insert.{right}

@@ -1,11 +1,6 @@
 -- A turn of the walk that pushes the pairs of the upper part; where it begins, and how the load ends.
 -- Assumes nothing.
-use Prim.Native.Nat.{ℕ, ◌-◌, ◌≤◌}
-use native.Mathlib.Omega.{arith}
-use mathlib.Core.Path.{◌≡◌, refl, sym, ap, ◌∙◌, subst}
-use mathlib.Core.List.{List, [], ◌∷◌, ◌++◌, append-nil, append_assoc}
-use lib.ListN.{length, length-append}
-use Rattle.model.specs.Layout.{header, seen_word, mark_word, header_size}
+use Rattle.model.specs.Layout.{header_size}
 use Rattle.model.specs.Tree.{Pair, after}
 use Rattle.model.specs.State.{State, formatted}
 use Rattle.model.specs.Words.{words_of}
@@ -15,7 +10,6 @@ use Rattle.model.specs.Room.{nodes_for}
 use Rattle.model.specs.Parting.{path_of, part_off}
 use Rattle.model.specs.Promise.{Holds}
 use Rattle.model.proofs.Held.{words_long}
-use Rattle.model.proofs.Header.{seen_is, mark_is}
 use Rattle.node.specs.declared.Kv.{Kv}
 use Rattle.node.specs.Reading.{pair_of}
 use Rattle.search.specs.declared.Handle.{Handle}
@@ -26,9 +20,9 @@ use Rattle.loading.proofs.Least.{nodes_more}
 use Rattle.loading.proofs.Parting.{path_whole}
 use Rattle.loading.proofs.Cuts.{part_sound}
 use Rattle.appending.specs.Pushes.{LoadIn}
-use Rattle.appending.specs.Runs.{Ended, Tells}
+use Rattle.appending.specs.Runs.{Ended}
 use Rattle.appending.proofs.Runs.{push_last, formatted_begun}
-use Rattle.std.proofs.Common.{Some, None}
+use Rattle.std.proofs.Common.{Some, None, ℕ, ◌-◌, ◌≤◌, arith, ◌≡◌, refl, sym, ap, ◌∙◌, subst, List, [], ◌∷◌, ◌++◌, append-nil, append_assoc, length, length-append}
 use Rattle.listing.specs.Heads.{HeadOf}
 use Rattle.cut.specs.Moves.{Moving, Upper}
 

@@ -8,7 +8,7 @@ use mathlib.Core.List.{List, [], ◌∷◌, ◌++◌, map, append-nil}
 use lib.ListN.{length, take, drop, set, replicate, length-map, length-set, length-take, length-drop, drop_of_length-le, replicate-append-replicate}
 use Rattle.model.specs.Lists.{pad}
 use Rattle.model.specs.declared.Layout.TheVariants.{Format2}
-use Rattle.model.specs.Layout.{header_size, node_size, parent_word, base, most, key_of, val_of, frame, node_words_by, node_words, cells, arena_by, NodeVal, nth, blank, Small, Arena}
+use Rattle.model.specs.Layout.{header_size, node_size, base, most, key_of, val_of, node_words, cells, arena_by, NodeVal, nth, blank, Small, Arena}
 use Rattle.model.specs.Words.{free_val}
 use Rattle.model.proofs.Arena.{words_length}
 use Rattle.slices.specs.Words.{splice}
@@ -90,10 +90,6 @@ short_put {h = h} {ns = ns} a n at o l ck cv ce cl =
     fields = rw (length-take-le at (nth ns n).pairs l, map_take key_of at (nth ns n).pairs, map_take val_of at (nth ns n).pairs) refl
 
 -- ---- a whole node written
-
-pub free_words : (l : List ℕ) (next : ℕ) → l ≡ replicate node_size 0 → set l parent_word next ≡ node_words (free_val next)
-unfolding node_words_by frame pad
-free_words l next e = rw e refl
 
 whole_put : (l p : List ℕ) → length l ≡ node_size → splice l 0 node_size p ≡ p
 unfolding splice

@@ -8,6 +8,8 @@ ghost use Rattle.header.specs.Headers.{Counted, marked, raised};
 
 use node::{HEADER, NodeNo, WORDS};
 
+// Stays a function a word: a struct over the words would be made anew at each call between two writes, for the one fact that they are ten.
+
 // The places of its words.
 pub const FORMAT: usize = 0;
 
@@ -120,6 +122,7 @@ pub fn count_off(a: &mut [u64])
 }
 
 // The first free node, or NONE, and how many are free.
+// Stays a number: the word that begins the chain, which the checker follows before it knows of any node.
 pub fn first_free(a: &[u64]) -> u64
     requires { header_size ≤ length a.now }
     ensures { result ≡ header a.now first_free_word }

@@ -119,6 +119,7 @@ pub fn insert_recursing(a: &mut [u64], edge: Handle, kv: Kv)
 }
 
 // How many nodes a new pair at this leaf edge takes: the run of full nodes upwards, and 1 if it includes the root.
+// Stays a counted walk: the count is the answer, and a for over the levels would need one after its end too, which no tree comes to.
 pub fn nodes_needed(a: &[u64], edge: Handle) -> usize
     requires { In a.now (λ s. EdgeAt s edge) }
     ensures { (s : model.State) → Holds a.now s → (y : EdgeAt s edge) → result ≡ needed y.way }

@@ -1,13 +1,5 @@
 -- The steps of a join, and how its promise is met.
 -- Assumes nothing.
-use Prim.Native.Nat.{ℕ, zero, suc, ◌+◌, ◌-◌, ◌*◌, ◌≤◌, ◌<◌, max}
-use native.Mathlib.Omega.{arith}
-use mathlib.Core.Path.{◌≡◌, refl, sym, ap, ap₂, ◌∙◌, subst}
-use mathlib.Core.Logic.{inl, inr}
-use mathlib.Core.List.{List, []}
-use lib.Dec.{lit<}
-use lib.Seq.{take_at}
-use lib.ListN.{length, take, drop, length-append}
 use Rattle.model.specs.declared.Answer.TheVariants.{Done, NoRoom, BadArena, BadSize}
 use Rattle.model.specs.Lists.{All, count}
 use Rattle.model.specs.Layout.{Sized, header, count_word, pairs_word}
@@ -30,7 +22,7 @@ use Rattle.model.proofs.Unique.{in_state}
 use Rattle.loading.proofs.Runs.{pairs_back, words_even}
 use Rattle.loading.proofs.Merging.{all_merge, rising_merge, length_merge}
 use Rattle.loading.proofs.Least.{nodes_more}
-use Rattle.std.proofs.Common.{Bool, false, cond, Option, Some, None, Ordering, Less, Equal, Greater, nat_cmp}
+use Rattle.std.proofs.Common.{Bool, false, cond, Option, Some, None, Ordering, Less, Equal, Greater, nat_cmp, ℕ, zero, suc, ◌+◌, ◌-◌, ◌*◌, ◌≤◌, ◌<◌, max, arith, ◌≡◌, refl, sym, ap, ap₂, ◌∙◌, subst, inl, inr, List, [], lit<, take_at, length, take, drop, length-append}
 use Rattle.std.specs.Ordering.{MatchOrdering, is_lt, ord_max}
 use Rattle.std.specs.Option.{option_cmp}
 use Rattle.std.proofs.lemmas.Cmp.{ranked}

@@ -1,9 +1,6 @@
 -- Any results that a promise about four words allows are one and the same.
 -- Assumes nothing.
-use Prim.Native.Nat.{ℕ}
-use mathlib.Core.Path.{◌≡◌, sym, ap, ap₂, ◌∙◌}
-use mathlib.Core.List.{List, [], ◌∷◌}
-use lib.ListN.{length}
+use Rattle.std.proofs.Common.{ℕ, ◌≡◌, sym, ap, ap₂, ◌∙◌, List, [], ◌∷◌, length}
 use Rattle.model.specs.declared.Picked.{Picked}
 use Rattle.model.specs.Cursor.{Cursor, past}
 use Rattle.model.specs.Promise.{bad_size, bad_arena}

@@ -75,6 +75,7 @@ pub fn keep_first(a: &[u64], changes: u64, words: &mut [u64]) -> Found
 }
 
 // A cursor at the last pair.
+// Stays beside keep_first, as keep_previous beside keep_next: the one line between reading and writing is another step of the cursor.
 pub fn keep_last(a: &[u64], changes: u64, words: &mut [u64]) -> Found
     ensures { Making (Promised (promise.last changes) a.now a.now) words.old words.new (said_picked result) }
 {

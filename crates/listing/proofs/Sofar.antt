@@ -1,14 +1,5 @@
 -- A listing on its way: what it has written, and what is left.
 -- Assumes nothing.
-use Prim.Native.Nat.{ℕ, zero, suc, ◌+◌, ◌*◌, ◌≤◌, ◌<◌}
-use native.Mathlib.Nat.{div-add-mod'}
-use native.Mathlib.Omega.{arith}
-use mathlib.Core.Path.{◌≡◌, refl, sym, ap, ap₂, ◌∙◌, subst}
-use mathlib.Core.Bool.{Bool, true, false}
-use mathlib.Core.List.{List, [], ◌∷◌, ◌++◌, append_assoc, append-nil}
-use lib.Dec.{ltb}
-use lib.Seq.{take_at}
-use lib.ListN.{length, take, drop, set, length-append}
 use borrow.Author.Tests.{lt-ltb, le-ltb}
 use Rattle.model.specs.declared.SearchBound.{SearchBound}
 use Rattle.model.specs.declared.Range.{Range}
@@ -28,7 +19,7 @@ use Rattle.model.proofs.Walks.{Ahead, next_kv_lem, next_edge_lem, start_edge, st
 use Rattle.slices.proofs.Laws.{set_two}
 use Rattle.search.specs.declared.Handle.{Handle}
 use Rattle.search.specs.Results.{leaf_edge}
-use Rattle.std.proofs.Common.{Ok, Some, None, is_some}
+use Rattle.std.proofs.Common.{Ok, Some, None, is_some, ℕ, zero, suc, ◌+◌, ◌*◌, ◌≤◌, ◌<◌, div-add-mod', arith, ◌≡◌, refl, sym, ap, ap₂, ◌∙◌, subst, Bool, true, false, List, [], ◌∷◌, ◌++◌, append_assoc, append-nil, ltb, take_at, length, take, drop, set, length-append}
 use Rattle.std.specs.Bool.{then_some}
 use Rattle.std.specs.Option.{MatchOption}
 use Rattle.navigate.specs.Places.{EdgeAt, KvAt, stepped}

@@ -1,12 +1,5 @@
 -- The steps of two walks that are merged.
 -- Assumes nothing.
-use Prim.Native.Nat.{ℕ, ◌+◌, ◌*◌, ◌≤◌, ◌<◌}
-use native.Mathlib.Omega.{arith}
-use mathlib.Core.Path.{◌≡◌, refl, sym, ap, ◌∙◌, subst}
-use mathlib.Core.Bool.{false}
-use mathlib.Core.List.{List, [], ◌∷◌, ◌++◌, append_assoc, append-nil}
-use lib.Dec.{lit<}
-use lib.ListN.{length, set, length-append}
 use Rattle.model.specs.declared.SearchBound.TheVariants.{AllIncluded}
 use Rattle.model.specs.declared.Range.{Range}
 use Rattle.model.specs.Lists.{All}
@@ -26,7 +19,7 @@ use Rattle.model.proofs.Bounds.{few}
 use Rattle.model.proofs.Header.{header_is}
 use Rattle.model.proofs.Ends.{both_ways}
 use Rattle.loading.proofs.Merging.{against_first, against_both, against_second, length_merge}
-use Rattle.std.proofs.Common.{Some}
+use Rattle.std.proofs.Common.{Some, ℕ, ◌+◌, ◌*◌, ◌≤◌, ◌<◌, arith, ◌≡◌, refl, sym, ap, ◌∙◌, subst, false, List, [], ◌∷◌, ◌++◌, append_assoc, append-nil, lit<, length, set, length-append}
 use Rattle.node.specs.declared.Kv.{Kv}
 use Rattle.node.specs.Reading.{pair_of}
 use Rattle.search.specs.declared.Handle.{Handle}

@@ -1,13 +1,14 @@
 // Nodes of the arena: the two kinds of number, the places of a node's words, reading, and which pair of a full node rises.
 #![tactic(auto)]
 
-ghost use Rattle.std.specs.Prelude.{◌≡◌, ◌+◌, ◌<◌, ◌≤◌, max};
+ghost use Rattle.std.specs.Prelude.{◌≡◌, ◌+◌, ◌<◌, ◌≤◌};
 ghost use Rattle.model.specs.Lists.{part};
 ghost use Rattle.model.specs.Layout.{base, most, node_size, state_word, length_word, parent_word, place_word, keys_word, values_word, edges_word, total_word, word_at};
 ghost use Rattle.model.specs.Insert as model;
 ghost use Rattle.node.specs.Reading.{Within, ascent_of, rising_of};
 
 // No node: the parent of the root, the end of the free chain.
+// Stays a number: the word that lies in the arena; `ascend` and `store::free_before` hand out options.
 pub const NONE: u64 = 4_294_967_295;
 
 // The words before the first node, and those of a node.
@@ -21,6 +22,7 @@ pub const CAPACITY: usize = 11;
 pub const MIN_LEN: usize = 5;
 
 // A node's state.
+// Stays numbers: words of the arena, read and compared as they lie there; clauses (`balance::edges_with`) speak of any word, which no enum has.
 pub const FREE: u64 = 0;
 
 pub const LEAF: u64 = 1;
@@ -56,15 +58,7 @@ pub struct Place(pub usize);
 #[derive(Clone, Copy)]
 pub struct Kv(pub u64, pub u64);
 
-// The larger of two words.
-pub fn larger(x: u64, y: u64) -> u64
-    ensures { result ≡ max x y }
-{
-    if x < y {
-        return y;
-    }
-    x
-}
+// Stays functions of the words and a number: a view of a node would borrow the words, be made anew after each write, and ask `Within` there.
 
 // The index of a node's first word.
 pub fn node_base(n: NodeNo) -> usize

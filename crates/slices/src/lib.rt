@@ -2,8 +2,8 @@
 #![tactic(auto)]
 
 ghost use Rattle.std.specs.Prelude.{◌≡◌, ◌⊎◌, ◌∷◌, ◌++◌, [], ◌+◌, ◌-◌, ◌<◌, ◌≤◌, length, take, drop, get_or, replicate};
-ghost use Rattle.model.specs.Lists.{part, insert_at};
-ghost use Rattle.slices.specs.Words.{splice, moved, remove_at};
+ghost use Rattle.model.specs.Lists.{insert_at};
+ghost use Rattle.slices.specs.Words.{moved, remove_at};
 
 // Puts val in before index idx; the words from there move up by one, and the last one is dropped.
 pub fn slice_insert(s: &mut [u64], idx: usize, val: u64)
@@ -56,19 +56,4 @@ pub fn move_words(a: &mut [u64], from: usize, to: usize, count: usize)
     let end = from + count;
     a.copy_within(from..end, to);
     a[from..end].fill(0);
-}
-
-// Copies every word of as long a slice.
-pub fn copy_from_slice(s: &mut [u64], src: &[u64])
-    requires { length src.now ≡ length s.old }
-    ensures { s.new ≡ src.now }
-{
-    s.copy_from_slice(src);
-}
-
-// Zeros in every word.
-pub fn clear(s: &mut [u64])
-    ensures { s.new ≡ replicate (length s.old) 0 }
-{
-    s.fill(0);
 }

@@ -2,18 +2,8 @@
 -- Assumes nothing.
 use Prim.Native.Nat.{◌+◌}
 use mathlib.Core.Path.{refl}
-use mathlib.Core.Logic.{inl, inr, ⊎_elim}
-use native.Mathlib.Omega.{arith}
-use Rattle.columns.proofs.Laws.{apart, first_moved}
+use Rattle.columns.proofs.Laws.{first_moved}
 use Rattle.columns.proofs.move_first.Goals as goal
-
-pub move_words-requires : goal.move_words-requires
-move_words-requires c =
-    let s = c in
-    let x = s.args in
-    let e = c.node_base.ensures in
-    let f = c.node_base-2.ensures in
-    (omega arith, omega arith, ⊎_elim (λ h. inl (omega arith)) (λ h. inr (omega arith)) (apart x.left.0 x.right.0 s.requires.within.2))
 
 pub returns : goal.returns
 returns c =

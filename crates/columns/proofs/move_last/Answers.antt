@@ -2,18 +2,8 @@
 -- Assumes nothing.
 use Prim.Native.Nat.{◌+◌}
 use mathlib.Core.Path.{refl}
-use mathlib.Core.Logic.{inl, inr, ⊎_elim}
-use native.Mathlib.Omega.{arith}
-use Rattle.columns.proofs.Laws.{apart, last_moved}
+use Rattle.columns.proofs.Laws.{last_moved}
 use Rattle.columns.proofs.move_last.Goals as goal
-
-pub move_words-requires : goal.move_words-requires
-move_words-requires c =
-    let s = c in
-    let x = s.args in
-    let e = c.node_base.ensures in
-    let f = c.node_base-2.ensures in
-    (omega arith, omega arith, ⊎_elim (λ h. inr (omega arith)) (λ h. inl (omega arith)) (apart x.left.0 x.right.0 s.requires.within.2))
 
 pub returns : goal.returns
 returns c =

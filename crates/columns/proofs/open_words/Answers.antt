@@ -1,15 +1,7 @@
 use Rattle.std.proofs.Common.{◌≡◌, ℕ, ◌+◌, ◌-◌, ◌<◌, List, length, get_or, set, sym, ap, ◌∙◌, arith}
-use Rattle.columns.proofs.Turns.{mix, mix_all, mix_down, doubled, doubled_long, turn_kept, turn_moved, turned}
+use Rattle.columns.proofs.Turns.{mix, mix_down, doubled, doubled_long, turn_kept, turn_moved, turned}
 use Rattle.columns.proofs.open_words.Goals as goal
 use Rattle.columns.proofs.open_words.Goals.{then-at-j, else-at-j}
-
-pub loop-j-init : goal.loop-j-init
-loop-j-init c =
-    let s = c.args.s.now in
-    let i = c.args.at in
-    let d = doubled_long s i (omega (arith, c.requires)) in
-    let e : length (doubled s i) ≡ 11 = omega (arith, d, c.requires) in
-    (omega arith, sym (ap (mix s (doubled s i)) (sym e) ∙ mix_all s (doubled s i) (sym d)))
 
 pub loop-j-preserved : goal.loop-j-preserved
 loop-j-preserved c =

@@ -1,6 +1,6 @@
 -- `cursor::from_end` meets its contract.
 -- Assumes nothing.
-use mathlib.Core.Path.{sym, ◌∙◌}
+use Rattle.std.proofs.Common.{sym, ◌∙◌}
 use Rattle.model.specs.Walk.{back_kv}
 use Rattle.model.specs.State.{State}
 use Rattle.model.specs.Promise.{Holds}

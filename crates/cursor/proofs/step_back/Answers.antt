@@ -1,6 +1,6 @@
 -- `cursor::step_back` meets its contract.
 -- Assumes nothing.
-use mathlib.Core.Path.{◌∙◌}
+use Rattle.std.proofs.Common.{◌∙◌}
 use Rattle.model.specs.Walk.{back_kv}
 use Rattle.model.specs.State.{State}
 use Rattle.model.specs.Promise.{Holds}

@@ -1,8 +1,7 @@
 -- `cut::cut_half` meets its contract.
 -- Assumes nothing.
-use Rattle.std.proofs.Common.{ap, ◌∙◌}
+use Rattle.std.proofs.Common.{ap, ◌∙◌, length-set}
 use Rattle.model.specs.Layout.{word_at, total_word}
-use lib.ListN.{length-set}
 use Rattle.model.proofs.Forward.{forward}
 use Rattle.cutting.proofs.Through.{along_ready, sweep_ready, root_ready, cut_through}
 use Rattle.cut.proofs.cut_half.Goals as goal

@@ -33,11 +33,6 @@ top c h ns free q a =
     let s = c.insert_word.ensures (take_head h free) _ edge_column (rw n.0 (edges_in mid (taken free) 0 o e)) (lit< tt) (stored n.1) in
     rw (top_body q.take) at (edge_inserted mid (taken free) o 0 _ (rw n.0 at s))
 
-pub take_node-top-requires : goal.take_node-top-requires
-take_node-top-requires c =
-    let p = c.requires in
-    record { head = p.head; nodes = p.nodes; arena = p.arena; holds = (p.holds.0, p.holds.1.take) }
-
 pub insert_word-requires : goal.insert_word-requires
 insert_word-requires c =
     let p = c.requires in

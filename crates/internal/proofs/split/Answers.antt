@@ -46,21 +46,11 @@ bodies c h ns free r b a =
     let s = c.move_last.ensures (take_head h free) _ edge_column (edges_in mid x.n.0 _ (cut_node_n r b) (omega (arith, r.place, b.edges_are))) (rw m (edges_in mid (taken free) _ (cut_node_m r b) (omega arith))) (omega arith) (stored d.1) in
     rw (cut_bodies_lem r b) at (edges_put mid x.n.0 (taken free) (λ (s t : List ℕ). take (x.at.0 + 1) s) (λ (s t : List ℕ). drop (x.at.0 + 1) s ++ t) (rw m at s))
 
-pub overflow_add-next : goal.overflow_add-next
-overflow_add-next c =
-    let r = c.requires.holds.0.1 in
-    omega (arith, r.place, (c.requires.arena.small c.args.n.0 r.node).pairs_fit)
-
 pub len-requires : goal.len-requires
 len-requires c = within c.requires.arena _ c.requires.holds.0.1.node
 
 pub overflow_sub-count : goal.overflow_sub-count
 overflow_sub-count c = omega (arith, c.len.ensures, len_is c.requires.arena _ c.requires.holds.0.1.node, c.requires.holds.0.1.place)
-
-pub take_node-right-requires : goal.take_node-right-requires
-take_node-right-requires c =
-    let p = c.requires in
-    record { head = p.head; nodes = p.nodes; arena = p.arena; holds = (p.holds.0.0, p.holds.0.1.take) }
 
 pub split_leaf_data-kv-requires : goal.split_leaf_data-kv-requires
 split_leaf_data-kv-requires c =

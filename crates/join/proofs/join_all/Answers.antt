@@ -1,8 +1,4 @@
-use Prim.Native.Nat.{◌*◌, ◌-◌, ◌≤◌, ◌<◌}
-use native.Mathlib.Omega.{arith}
-use mathlib.Core.Path.{◌≡◌, refl, sym, ap, ap₂, ◌∙◌, subst}
-use mathlib.Core.List.{List, []}
-use lib.ListN.{length, take}
+use Rattle.std.proofs.Common.{◌*◌, ◌-◌, ◌≤◌, ◌<◌, arith, ◌≡◌, refl, sym, ap, ap₂, ◌∙◌, subst, List, [], length, take}
 use Rattle.model.specs.Lists.{All}
 use Rattle.model.specs.Tree.{Pair}
 use Rattle.model.specs.Mark.{Covers, higher}

@@ -1,5 +1,4 @@
-use Prim.Native.Nat.{ℕ}
-use mathlib.Core.Path.{ap, ◌∙◌}
+use Rattle.std.proofs.Common.{ℕ, ap, ◌∙◌}
 use Rattle.model.specs.State.{formatted}
 use Rattle.model.specs.Words.{words_of}
 use Rattle.appending.specs.Runs.{Loads}

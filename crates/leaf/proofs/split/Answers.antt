@@ -15,11 +15,6 @@ use Rattle.leaf.proofs.split.Goals.{After-take_node-right}
 new : (c : After-take_node-right) → let x = c.args in (h : List ℕ) (ns : List NodeVal) (free : List ℕ) → CutReady h ns free x.n.0 x.at.0 → Arena x.a.now h ns → (c.take_node-right.result.0 ≡ taken free) × Arena c.take_node-right.new.a (take_head h free) (take_node ns free leaf)
 new c h ns free r a = c.take_node-right.ensures h ns free r.take a
 
-pub take_node-right-requires : goal.take_node-right-requires
-take_node-right-requires c =
-    let p = c.requires in
-    record { head = p.head; nodes = p.nodes; arena = p.arena; holds = (p.holds.0, p.holds.1.take) }
-
 pub split_leaf_data-kv-requires : goal.split_leaf_data-kv-requires
 split_leaf_data-kv-requires c =
     let p = c.requires in

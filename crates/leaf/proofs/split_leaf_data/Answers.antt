@@ -1,22 +1,8 @@
 -- `leaf::split_leaf_data` meets its contract.
 -- Assumes nothing.
 use mathlib.Core.Path.{◌∙◌}
-use native.Mathlib.Omega.{arith}
 use Rattle.leaf.proofs.Steps.{to_move, to_remove, pair_of_mid, split_done}
 use Rattle.leaf.proofs.split_leaf_data.Goals as goal
-
-pub overflow_add-i : goal.overflow_add-i
-overflow_add-i c = omega (arith, c.requires.holds.place, (c.requires.arena.small c.args.n.0 c.requires.holds.two.left).pairs_fit)
-
-pub move_last_pairs-requires : goal.move_last_pairs-requires
-move_last_pairs-requires c =
-    let p = c.requires in
-    record { head = p.head; nodes = p.nodes; arena = p.arena; holds = to_move p.nodes _ _ _ p.holds p.arena }
-
-pub remove-requires : goal.remove-requires
-remove-requires c =
-    let p = c.requires in
-    record { head = p.head; nodes = _; arena = c.move_last_pairs.ensures p.head p.nodes (to_move p.nodes _ _ _ p.holds p.arena) p.arena; holds = to_remove p.nodes _ _ _ p.holds }
 
 pub returns : goal.returns
 returns c =

@@ -1,5 +1,4 @@
-use mathlib.Core.Path.{subst}
-use mathlib.Core.List.{List}
+use Rattle.std.proofs.Common.{subst, List}
 use Rattle.model.specs.Tree.{Pair}
 use Rattle.model.proofs.Forward.{forward}
 use Rattle.listing.specs.Heads.{HeadOf}

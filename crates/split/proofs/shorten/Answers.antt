@@ -12,9 +12,6 @@ clear_from-requires c = let k = cut_here c.requires in (k.0, omega arith, omega 
 pub clear_from-requires-2 : goal.clear_from-requires-2
 clear_from-requires-2 c = let k = cut_here c.requires in (omega arith, omega arith, omega arith)
 
-pub overflow_add-i : goal.overflow_add-i
-overflow_add-i c = let k = cut_here c.requires in omega arith
-
 pub clear_from-requires-3 : goal.clear_from-requires-3
 clear_from-requires-3 c = let k = cut_here c.requires in (omega arith, omega arith, omega arith)
 

@@ -1,7 +1,7 @@
 -- `store::take_node` meets its contract.
 -- Assumes nothing.
 use Prim.Native.Nat.{ℕ, ◌-◌}
-use mathlib.Core.Path.{ap, ◌∙◌}
+use mathlib.Core.Path.{ap}
 use native.Mathlib.Omega.{arith}
 use lib.ListN.{length-set}
 use Rattle.store.proofs.Chain.{take_here, taken_first}
@@ -50,9 +50,6 @@ pub set_free_nodes-requires : goal.set_free_nodes-requires
 set_free_nodes-requires c =
     let k = take_here c.requires in
     simp length-set (omega arith)
-
-pub shape_of-a : goal.shape_of-a
-shape_of-a c = c.set_free_nodes.auto.a ∙ simp length-set
 
 pub returns : goal.returns
 returns c =

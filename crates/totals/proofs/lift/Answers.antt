@@ -1,7 +1,6 @@
 -- `totals::lift` meets its contract: wherever it was going where the loop began, it is going still, and above the root it has no further to go.
 -- Assumes nothing.
 use Rattle.std.proofs.Common.{◌≡◌, ℕ, ◌+◌, ◌-◌, ◌≤◌, List, sym, ◌∙◌, arith}
-use Rattle.std.proofs.Math.Nat.{sub-zero}
 use Rattle.model.specs.Layout.{NodeVal}
 use Rattle.node.proofs.Reading.{arena_length}
 use Rattle.totals.specs.Settling.{Settling}
@@ -14,9 +13,6 @@ height-end-requires c = omega (arith, arena_length c.requires.arena)
 
 known : (c : At-loop) → Settling c.loop.a c.requires.head c.requires.nodes c.loop.node.0 (c.height-end.result - c.loop.counter) c.args.was c.args.is
 known c = let p = c.requires in c.loop.invariant _ _ (lift_begin c.height-end.ensures p.arena p.holds)
-
-pub loop-init : goal.loop-init
-loop-init c = λ hd ns s. rw sub-zero s
 
 pub change-requires : goal.change-requires
 change-requires c = let s = known (goal.at.change-requires c).At-loop in (lift_within s, (lift_room s).0, (lift_room s).1)

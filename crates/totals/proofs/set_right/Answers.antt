@@ -5,6 +5,3 @@ use Rattle.totals.proofs.set_right.Goals as goal
 
 pub set_total-requires : goal.set_total-requires
 set_total-requires c = within c.requires.arena c.args.n.0 c.requires.holds.0.node
-
-pub returns : goal.returns
-returns c = λ h ns k a. rw (c.due_of-t.ensures h ns k a) at (c.set_total.ensures h ns k.node a)

@@ -1,9 +1,9 @@
 -- `totals::tally` meets its contract. The invariant: the counts of the nodes that the first i edges lead to are added up.
 -- Assumes nothing.
 use Prim.Native.Nat.{◌+◌}
-use mathlib.Core.Path.{◌≡◌, ap, ◌∙◌}
+use mathlib.Core.Path.{◌∙◌}
 use native.Mathlib.Omega.{arith}
-use Rattle.totals.proofs.Sums.{sofar, sofar_few, sofar_all, here, none_yet, child_here, one_more}
+use Rattle.totals.proofs.Sums.{sofar_few, here, none_yet, child_here, one_more}
 use Rattle.totals.proofs.tally.Goals as goal
 
 pub len-t-requires : goal.len-t-requires
@@ -41,11 +41,3 @@ pub loop-i-preserved : goal.loop-i-preserved
 loop-i-preserved c =
     let l = c.loop-i in
     λ h ns k a. omega (arith, l.invariant h ns k a, one_more a k l.i _ (omega arith) c.edge-child.ensures, c.total-t.ensures)
-
-pub returns : goal.returns
-returns c =
-    λ h ns k a.
-    let x = c.args in
-    let l = c.loop-i in
-    let e : l.i ≡ x.end = omega arith in
-    l.invariant h ns k a ∙ ap (sofar ns x.n.0) e ∙ sofar_all ns x.n.0 x.end k.count
