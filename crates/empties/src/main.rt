@@ -18,6 +18,7 @@ const LONG: usize = 5860;
 const ROUND: u64 = 811;
 
 // The mix so far and the header.
+// Stays beside replay's: the stored lists have a space at the end of this line, and none at the end of that one.
 fn tell(rt: &impl Print, mix: u64, a: &[u64; LONG]) -> io::Result<()> {
     say(rt, mix)?;
     say_line(rt, &a[..10])

@@ -52,7 +52,7 @@ impl From<(u64, u64, u64)> for Record {
     }
 }
 
-// A bound of its kind.
+// A bound of its kind. Stays a match on a number: a record's words are numbers, as oracle/src/replay.rs has them.
 fn bound(kind: u64, key: u64) -> SearchBound
     ensures { result ≡ read_bound kind key }
 {

@@ -52,6 +52,7 @@ pub fn say_line(rt: &impl Print, a: &[u64]) -> io::Result<()> {
 
 // Reads until the buffer is full or the input ends; how many bytes were read, which lie at the buffer's front. Where a reading fails, those
 // that came before it are in the buffer, and how many is not told.
+// Stays a while: it goes on by what a reading gave, not by one; std has no reading that tells how much came before the end, but into a Vec (no heap).
 pub fn read_full<R: Read>(input: &mut R, buf: &mut [u8]) -> io::Result<usize>
     ensures bound { ReadsAtMost result buf.new }
     ensures bytes { IfOk result (λ n. Consumes (R.remaining input.old) (R.remaining input.new) (take n buf.new)) }
