@@ -42,8 +42,8 @@ fn mend_right(rt: &impl Print, a: &mut [u64], s: &[u8]) -> io::Result<()>
     say_line(rt, a)
 }
 
-// The same of the left border. Stays beside the right one: border has the Rust's two names, and what a closure that repairs would have to
-// promise is longer than these three lines.
+// The same of the left border.
+// Stays beside the right one: border has the Rust's two names, and a closure that repairs would have to promise more than these lines are long.
 fn mend_left(rt: &impl Print, a: &mut [u64], s: &[u8]) -> io::Result<()>
     requires { (length a.old ≡ length s.now) × ShortOn left (words_in s.now) }
     ensures { Repairs left (words_in s.now) a.new }

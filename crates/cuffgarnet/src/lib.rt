@@ -115,7 +115,8 @@ pub extern "C" fn cuffgarnet_order(
     hand_word(order(arena, code, key, value), second)
 }
 
-// The bound of a kind. Stays a match on a number: C's interface.
+// The bound of a kind.
+// Stays a match on a number: C's interface.
 fn bound_of(kind: u64, key: u64) -> Option<SearchBound>
     ensures { result ≡ bound_of kind key }
 {

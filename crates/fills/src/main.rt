@@ -15,8 +15,8 @@ use telling::{around, say, say_line};
 // The words of 64 nodes.
 const LONG: usize = 2506;
 
-// The number of the answer that there is no room. Stays a number: the clause speaks of it, and a match on the refusal loses, where its arms
-// join, that it was another.
+// The number of the answer that there is no room.
+// Stays a number: tried a match on the refusal; where its arms join, the proof of the next turn does not know that it was another.
 const NO_ROOM: u64 = 3;
 
 // So many keys are tried at most.

@@ -18,6 +18,7 @@ use telling::{RECORD, each_record, mix_words, say, say_answer, say_last, say_wor
 // The words of 150 nodes.
 const LONG: usize = 5860;
 
+// Stays numbers: a record's words are numbers, and the conversion below makes a Record of them.
 // The codes of records that are no orders; those of listings and forks have the kinds of both bounds in their lowest four bits.
 const FORMAT: u64 = 256;
 
@@ -52,7 +53,8 @@ impl From<(u64, u64, u64)> for Record {
     }
 }
 
-// A bound of its kind. Stays a match on a number: a record's words are numbers, as oracle/src/replay.rs has them.
+// A bound of its kind.
+// Stays a match on a number: a record's words are numbers, as oracle/src/replay.rs has them.
 fn bound(kind: u64, key: u64) -> SearchBound
     ensures { result ≡ read_bound kind key }
 {
@@ -106,7 +108,10 @@ fn say_fork(rt: &impl Print, f: Result<Parting, Handle>) -> io::Result<()> {
         Ok(parted) => {
             let (start, first) = spelled(parted.bounds.start);
             let (end, last) = spelled(parted.bounds.end);
-            println!(rt; "{} {} {} {start} {first} {end} {last}", parted.node.0, parted.lower.0, parted.upper.0)
+            println!(rt;
+                "{} {} {} {start} {first} {end} {last}",
+                parted.node.0, parted.lower.0, parted.upper.0
+            )
         }
     }
 }
@@ -127,14 +132,7 @@ fn tell(rt: &impl Print, mix: u64, a: &[u64; LONG]) -> io::Result<()> {
 }
 
 // One record; the mix after it. Where it can't be told, it is done all the same.
-fn run(
-    rt: &impl Print,
-    a: &mut [u64; LONG],
-    code: u64,
-    k: u64,
-    v: u64,
-    mix: u64,
-) -> io::Result<u64>
+fn run(rt: &impl Print, a: &mut [u64; LONG], code: u64, k: u64, v: u64, mix: u64) -> io::Result<u64>
     ensures ok { IfOk result (λ now. Replays code k v mix a.old a.new now) }
     ensures err { OnErr result ((now : ℕ) × Replays code k v mix a.old a.new now) }
 {
