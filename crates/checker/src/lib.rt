@@ -12,7 +12,7 @@ ghost use Rattle.inspect.specs.Tests.{Decides, reached};
 ghost use Rattle.checker.specs.Walks.{Said, Tells, key_task, keys_task, child_of, edges_task, node_task};
 ghost use Rattle.checker.specs.Whole.{HeadingBy, tree, start, FinishedBy};
 
-use formats::{Arena, Format, Format1, Format2};
+use formats::{Arena, Format, Format1, Format2, base_of};
 use header::{HIGHEST, LARGEST};
 use inspect::{Visit, above, ascents, chain, lead, marked, own, own_leaf};
 use model::{Layout, Refused};
@@ -195,7 +195,7 @@ fn heading<F: Format>(words: &[u64]) -> Option<Arena<'_, F>>
     if header::format(words) != F::NUMBER
         || count == 0
         || count > LARGEST
-        || words.len() != HEADER + F::WORDS * count
+        || words.len() != base_of::<F>(NodeNo(count))
         || header::offset(words) != HEADER
         || header::height(words) > HIGHEST
         || header::free_nodes(words) > count

@@ -4,7 +4,7 @@
 ghost use Rattle.std.specs.Prelude.{◌≡◌, ℕ, ◌+◌, ◌<◌, ◌≤◌, length, refl, MatchOption};
 ghost use Rattle.model.specs.declared.Layout.{Layout};
 ghost use Rattle.model.specs.declared.Layout.TheVariants as layouts;
-ghost use Rattle.model.specs.Layout.{SizedBy, Counts, format_number_by, base_by, node_size_by, word_at_by, most, state_word, length_word, parent_word, place_word, keys_word, edges_word, total_word};
+ghost use Rattle.model.specs.Layout.{Counts, format_number_by, base_by, node_size_by, word_at_by, most, state_word, length_word, parent_word, place_word, keys_word, edges_word, total_word};
 
 use node::{EDGES, HEADER, KEYS, LEN, NodeNo, PARENT, PARENT_IDX, Place, STATE, TOTAL, WORDS};
 use std::marker::PhantomData;
@@ -63,13 +63,21 @@ impl Format for Format2 {
     ghost words_is = { refl };
 }
 
-// Words that are as many as an arena of so many nodes has. That alone is known of them.
+// The index of a node's first word; of as many as there are, where the last one ends.
+pub fn base_of<F: Format>(n: NodeNo) -> usize
+    requires { base_by F.layout n.0 < 18446744073709551616 }
+    ensures { result ≡ base_by F.layout n.0 }
+{
+    HEADER + F::WORDS * n.0
+}
+
+// Words that have so many nodes of a format. That alone is known of them.
 #[derive(Drop)]
 pub struct Arena<'a, F: Format> {
     pub words: &'a [u64],
     pub count: usize,
     pub format: PhantomData<F>,
-    pub ghost sized: { SizedBy F.layout count (length words.now) },
+    pub ghost within: { base_by F.layout count ≤ length words.now },
 }
 
 // Stays a clause of each, that the arena has the node: of a struct of an arena and its node the tests would have to say beside each reading
@@ -81,7 +89,7 @@ impl<F: Format> Arena<'_, F> {
         requires { n.0 < self.now.count }
         ensures { result ≡ base_by F.layout n.0 }
     {
-        HEADER + F::WORDS * n.0
+        base_of::<F>(n)
     }
 
     // The word k of a node.

@@ -35,6 +35,7 @@ fn insertion_edge(insertion: LeftOrRight<Place>, left: NodeNo, right: NodeNo) ->
 }
 
 // Puts a pair in where there is room: at a leaf edge, or at an edge of an internal node, with the node right of it.
+#[inline(always)]
 fn insert_fit(a: &mut [u64], n: NodeNo, at: Place, kv: Kv, child: Option<NodeNo>)
     requires { (k : ℕ) × Has a.old (λ h ns. FitsAt (level child k) ns n.0 at.0 (number child)) }
     ensures { (k : ℕ) (h : List ℕ) (ns : List NodeVal) → FitsAt (level child k) ns n.0 at.0 (number child) → Arena a.old h ns → Arena a.new h (fit_at (level child k) ns n.0 at.0 (pair_of kv) (number child)) }
@@ -46,6 +47,7 @@ fn insert_fit(a: &mut [u64], n: NodeNo, at: Place, kv: Kv, child: Option<NodeNo>
 }
 
 // The same at any edge: a full node is split. Counts are left as they were.
+#[inline(always)]
 fn insert_or_split(
     a: &mut [u64],
     n: NodeNo,
@@ -82,6 +84,7 @@ fn settle_inserted(a: &mut [u64], n: NodeNo, split: Option<SplitResult>)
 }
 
 // The same, and counts set right.
+#[inline(always)]
 fn insert(a: &mut [u64], n: NodeNo, at: Place, kv: Kv, child: Option<NodeNo>) -> Option<SplitResult>
     requires { GapAt a.old n.0 at.0 child }
     ensures { (k : ℕ) (s : Gap a.old (level child k) n.0 at.0 (number child)) → Outcome s (pair_of kv) a.new result }
