@@ -22,10 +22,7 @@ fn goes(a: &[u64], n: NodeNo, least: u64) -> bool
     if len(a, n) == 0 {
         return false;
     }
-    if least <= key(a, n, Place(0)) {
-        return true;
-    }
-    false
+    least <= key(a, n, Place(0))
 }
 
 // A node becomes a free one, with the next of the chain.
