@@ -6,7 +6,7 @@ ghost use Rattle.std.specs.Prelude.{◌≡◌, List, length, set, ℕ, suc, ◌�
 ghost use Rattle.model.specs.Tree.{Pair, Whole};
 ghost use Rattle.model.specs.Lists.{All};
 ghost use Rattle.model.specs.Layout.{header, header_size, root_word, pairs_word, seen_word, mark_word, most, word_at, length_word, NodeVal, Arena};
-ghost use Rattle.model.specs.Mark.{Covers, seen_of, mark_of};
+ghost use Rattle.model.specs.Mark.{Mark, Covers, seen_of, mark_of};
 ghost use Rattle.model.specs.Sound.{Sound};
 ghost use Rattle.model.specs.Map.{Rising};
 ghost use Rattle.model.specs.Words.{words_of};
@@ -19,13 +19,13 @@ ghost use Rattle.standing.specs.Heads.{Rest, ClosedBy, Uncounted};
 ghost use Rattle.inspect.specs.Tests.{Decides};
 ghost use Rattle.appending.specs.Pushes as pushes;
 ghost use Rattle.header.specs.Headers.{marked};
-ghost use Rattle.appending.specs.Runs.{Begun, BegunIn, Ended, EndedIn, Loads, LoadsIn};
+ghost use Rattle.appending.specs.Runs.{Begun, BegunIn, Ended, EndedIn, Tells, Loads, LoadsIn};
 ghost use Rattle.appending.specs.Stocks.{Stocks, StocksIn, Pushed, PushedIn};
 
 use balance::BalancingContext;
 use columns::{insert_word, set_len};
 use counting::count_node;
-use header::PAIRS;
+use header::{MARK, PAIRS, SEEN};
 use internal::{insert_fit, new_internal, push_internal_level};
 use node::{CAPACITY, EDGES, KEYS, Kv, LEAF, MIN_LEN, NodeNo, Place, VALS, ascend, edge, len};
 use store::take_node;
@@ -201,35 +201,38 @@ pub fn bulk_push(a: &mut [u64], run: &[u64])
     }
 }
 
-// Writes the pair count and the mark.
-fn tell(a: &mut [u64], pairs: u64, mark: Option<u64>)
+// Writes the pair count, and that a mark was seen.
+fn tell(a: &mut [u64], pairs: u64, seen: u64, mark: u64)
     requires { header_size ≤ length a.old }
-    ensures { (h : List ℕ) (ns : List NodeVal) → Arena a.old h ns → Arena a.new (set (set (set h pairs_word pairs) seen_word (seen_of (marked mark))) mark_word (mark_of (marked mark))) ns }
+    ensures { (h : List ℕ) (ns : List NodeVal) → Arena a.old h ns → Arena a.new (set (set (set h pairs_word pairs) seen_word seen) mark_word mark) ns }
 {
     a[PAIRS] = pairs;
-    header::set_mark(a, mark);
+    a[SEEN] = seen;
+    a[MARK] = mark;
 }
 
 // Ends a load: stocks the right border, sets the counts and writes the header.
-pub fn finish(a: &mut [u64], pairs: u64, mark: Option<u64>)
+// Stays two words, the flag seen and the mark: docs/ARCHITECTURE.md names it, and it took any two.
+pub fn finish(a: &mut [u64], pairs: u64, seen: u64, mark: u64)
     requires { EndedIn a.old }
-    ensures { (g : Rest) (ps : List Pair) → Ended a.old g (load.push_all ps load.begun) → pairs ≡ length ps → Sound (load.loaded_with (marked mark) g.size ps) → a.new ≡ words_of (load.loaded_with (marked mark) g.size ps) }
+    ensures { (g : Rest) (ps : List Pair) (m : Mark) → Ended a.old g (load.push_all ps load.begun) → Tells m ps pairs seen mark → Sound (load.loaded_with m g.size ps) → a.new ≡ words_of (load.loaded_with m g.size ps) }
 {
     fix_right_border_of_plentiful(a);
     let root = header::root(a);
     let below = header::height(a);
     count_node(a, root, below);
-    tell(a, pairs, mark);
+    tell(a, pairs, seen, mark);
 }
 
 // Loads a run that rises into a formatted arena with nodes enough, with a mark that no key exceeds.
-pub fn load_marked(a: &mut [u64], run: &[u64], mark: Option<u64>)
+// Stays two words, the flag seen and the mark: docs/ARCHITECTURE.md names it, and it took any two.
+pub fn load_marked(a: &mut [u64], run: &[u64], seen: u64, mark: u64)
     requires { LoadsIn a.old run.now }
-    ensures { (n : ℕ) → Loads n a.old run.now → All (λ (p : Pair). Covers (marked mark) p.key) (pairs_of run.now) → a.new ≡ words_of (load.loaded_with (marked mark) n (pairs_of run.now)) }
+    ensures { (n : ℕ) (m : Mark) → Loads n a.old run.now → All (λ (p : Pair). Covers m p.key) (pairs_of run.now) → seen ≡ seen_of m → mark ≡ mark_of m → a.new ≡ words_of (load.loaded_with m n (pairs_of run.now)) }
 {
     bulk_push(a, run);
     let n = run.len();
-    finish(a, (n / 2) as u64, mark);
+    finish(a, (n / 2) as u64, seen, mark);
 }
 
 // The last key of a run, which is its mark.
@@ -249,7 +252,7 @@ pub fn load_formatted(a: &mut [u64], run: &[u64])
     ensures { (n : ℕ) → Loads n a.old run.now → a.new ≡ words_of (load.loaded n (pairs_of run.now)) }
 {
     let mark = last_key(run);
-    load_marked(a, run, mark);
+    load_marked(a, run, u64::from(mark.is_some()), mark.unwrap_or(0));
 }
 
 // Whether the keys of a run rise strictly.

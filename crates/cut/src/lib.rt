@@ -75,7 +75,7 @@ fn load_upper(a: &[u64], b: &mut [u64], key: u64, pairs: usize, nodes: usize)
     let from = lower_leaf_edge(a, SearchBound::Included(key));
     write_all(b, nodes);
     push_after(a, b, from, pairs);
-    finish(b, pairs as u64, header::stored_mark(a));
+    finish(b, pairs as u64, header::seen(a), header::mark(a));
 }
 
 // Cuts the pairs from a key on off the first arena, into the second slice, whose words do not matter.

@@ -8,7 +8,7 @@ use Rattle.model.specs.Insert.{needed}
 use Rattle.model.specs.Mark.{spend}
 use Rattle.model.specs.State.{State, Reply, list}
 use Rattle.model.specs.declared.Answer.{Answer}
-use Rattle.model.specs.declared.Answer.TheVariants.{Done, Value}
+use Rattle.model.specs.declared.Answer.TheVariants.{Done, Value, NoRoom}
 use Rattle.node.specs.declared.NodeNo.{NodeNo}
 use Rattle.node.specs.declared.Place.{Place}
 use Rattle.node.specs.declared.LeftOrRight.{LeftOrRight}
@@ -20,7 +20,7 @@ use Rattle.navigate.specs.Places.{EdgeAt}
 use Rattle.standing.specs.Heads.{Rest, rest_of, ClosedIn}
 use Rattle.growing.specs.Climbs.{Gap, Fitted, Risen, FittedRaw, RisenRaw, Climbing}
 use Rattle.model.specs.declared.Refused.{Refused}
-use Rattle.model.specs.Answer.{refused}
+use Rattle.model.specs.declared.Refused.TheVariants as why
 
 -- the edge in a half
 abbrev pub target_of : LeftOrRight Place → NodeNo → NodeNo → NodeNo × Place
@@ -92,8 +92,17 @@ pub record Placed (k : ℕ) (s : State) (d : Reply) (w : List ℕ) (r : Answer) 
   pub mark_is : d.state.mark ≡ spend k s.mark
   pub held : ClosedIn w (rest_of s) (record { whole = d.state.whole; free = d.state.free })
 
--- w is the words before, w' after; the result, the former value or a refusal
+-- w is the words before, w' after; the result, the former value or a refusal, which is for lack of room alone
 abbrev pub PutIn : ℕ → State → Reply → List ℕ → List ℕ → Result (Option ℕ) Refused → Type 0
 PutIn k s d w w' (Ok None) = Placed k s d w' Done 1
 PutIn k s d w w' (Ok (Some v)) = Placed k s d w' (Value v) 0
-PutIn k s d w w' (Err r) = (d ≡ record { answer = refused r; state = s }) × (w' ≡ w)
+PutIn k s d w w' (Err why.NoRoom) = (d ≡ record { answer = NoRoom; state = s }) × (w' ≡ w)
+PutIn k s d w w' (Err why.BadArena) = ⊥
+PutIn k s d w w' (Err why.BadRange) = ⊥
+PutIn k s d w w' (Err why.BadOrder) = ⊥
+PutIn k s d w w' (Err why.BadSize) = ⊥
+PutIn k s d w w' (Err why.BadImage) = ⊥
+PutIn k s d w w' (Err why.StaleCursor) = ⊥
+PutIn k s d w w' (Err why.NotRising) = ⊥
+PutIn k s d w w' (Err why.Spent) = ⊥
+PutIn k s d w w' (Err why.Older) = ⊥

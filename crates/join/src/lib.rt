@@ -32,7 +32,7 @@ fn load_anew(a: &mut [u64], run: &[u64], mark: Option<u64>)
     ensures { (n : ℕ) → Anew n a.old run.now → All (λ (p : Pair). Covers (marked mark) p.key) (pairs_of run.now) → a.new ≡ words_of (loaded_with (marked mark) n (pairs_of run.now)) }
 {
     write_all(a, header::count(a));
-    load_marked(a, run, mark);
+    load_marked(a, run, u64::from(mark.is_some()), mark.unwrap_or(0));
 }
 
 // Whether a load of the joined run takes more nodes than the first has. No walk is needed where there are enough for all pairs of both.

@@ -1,6 +1,6 @@
 -- `append::finish` meets its contract: the right border stocked, the counts set, the header written.
 -- Assumes nothing.
-use Rattle.std.proofs.Common.{List, ◌≡◌, refl}
+use Rattle.std.proofs.Common.{List, ◌≡◌}
 use Rattle.model.specs.Layout.{header, root_word, height_word}
 use Rattle.model.specs.Tree.{Pair, plug}
 use Rattle.model.specs.Load.{push_all, begun, plenty}
@@ -43,6 +43,6 @@ tell-requires c = let e = read (goal.at.tell-requires c).After-height-below in c
 
 pub returns : goal.returns
 returns c =
-    λ g ps o t s.
+    λ g ps m o t s.
     let e = read (goal.at.returns c).After-height-below in
-    finished g ps _ _ _ _ (record { pairs_are = t; seen_is = refl; mark_is = refl }) s ((counts (goal.at.returns c).After-fix_right_border_of_plentiful g ps o).leaves _ (rw (e.0, e.1) at c.count_node.ensures)) c.tell.ensures
+    finished g ps m _ _ _ t s ((counts (goal.at.returns c).After-fix_right_border_of_plentiful g ps o).leaves _ (rw (e.0, e.1) at c.count_node.ensures)) c.tell.ensures

@@ -14,4 +14,4 @@ pub finish-requires : goal.finish-requires
 finish-requires c = let q = c.requires in record { rest = _; pairs = pairs_of c.args.run.now; ended = c.bulk_push.ensures _ (begins q.loads) }
 
 pub returns : goal.returns
-returns c = λ n o v. c.finish.ensures (rest_of (formatted n)) (pairs_of c.args.run.now) (c.bulk_push.ensures _ (begins o)) (half_is o _ refl) (sound_with o _ v)
+returns c = λ n m o v es em. c.finish.ensures (rest_of (formatted n)) (pairs_of c.args.run.now) m (c.bulk_push.ensures _ (begins o)) (record { pairs_are = half_is o _ refl; seen_is = es; mark_is = em }) (sound_with o m v)

@@ -4,7 +4,9 @@ use Rattle.model.specs.State.{formatted}
 use Rattle.model.specs.Parting.{part_off}
 use Rattle.model.proofs.Backward.{backward}
 use Rattle.standing.specs.Heads.{rest_of}
-use Rattle.model.proofs.Header.{stored_mark_is}
+use Rattle.std.proofs.Common.{◌∙◌}
+use Rattle.model.proofs.Header.{seen_is, mark_is}
+use Rattle.appending.specs.Runs.{Tells}
 use Rattle.cut.proofs.Moves.{upper_moves, upper_sound, head_in}
 use Rattle.cut.proofs.load_upper.Goals as goal
 
@@ -27,8 +29,11 @@ push_after-requires c =
       moving = upper_moves x.args.key p.holds p.upper d.result (d.ensures p.state p.holds) _ c.write_all.ensures;
     }
 
-pub stored_mark-requires : goal.stored_mark-requires
-stored_mark-requires c = head_in c.requires.holds
+pub seen-requires : goal.seen-requires
+seen-requires c = head_in c.requires.holds
+
+pub mark-requires : goal.mark-requires
+mark-requires c = head_in c.requires.holds
 
 pub finish-requires : goal.finish-requires
 finish-requires c =
@@ -47,4 +52,5 @@ returns c = λ s o u.
     let d = c.lower_leaf_edge-from in
     let r = rest_of (formatted x.nodes) in
     let ps = part_off x.key s in
-    rw (c.stored_mark.ensures, stored_mark_is o) at (c.finish.ensures r ps (c.push_after.ensures s o r ps (upper_moves x.key o u d.result (d.ensures s o) _ c.write_all.ensures)) u.pairs_are (rw (c.stored_mark.ensures, stored_mark_is o) (upper_sound x.key o u)))
+    let t : Tells s.mark ps x.pairs c.seen.result c.mark.result = record { pairs_are = u.pairs_are; seen_is = c.seen.ensures ∙ seen_is o; mark_is = c.mark.ensures ∙ mark_is o } in
+    c.finish.ensures r ps s.mark (c.push_after.ensures s o r ps (upper_moves x.key o u d.result (d.ensures s o) _ c.write_all.ensures)) t (upper_sound x.key o u)

@@ -2,6 +2,7 @@ use Rattle.std.proofs.Common.{ℕ, ap, ◌∙◌}
 use Rattle.model.specs.State.{formatted}
 use Rattle.model.specs.Words.{words_of}
 use Rattle.appending.specs.Runs.{Loads}
+use Rattle.append.proofs.Words.{flag_said, key_said}
 use Rattle.join.specs.Joins.{Anew}
 use Rattle.join.proofs.Joining.{to_load}
 use Rattle.join.proofs.load_anew.Goals as goal
@@ -15,4 +16,4 @@ pub load_marked-requires : goal.load_marked-requires
 load_marked-requires c = let x = c.requires in record { count = x.count; loads = ready (goal.at.load_marked-requires c).After-write_all x.count x.anew }
 
 pub returns : goal.returns
-returns c = λ n y covers. c.load_marked.ensures n (ready (goal.at.returns c).After-write_all n y) covers
+returns c = λ n y covers. c.load_marked.ensures n _ (ready (goal.at.returns c).After-write_all n y) covers (c.from.ensures ∙ flag_said c.args.mark c.is_some.ensures) (c.unwrap_or.ensures ∙ key_said c.args.mark)
