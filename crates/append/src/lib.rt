@@ -27,7 +27,7 @@ use columns::{insert_word, set_len};
 use counting::count_node;
 use header::{MARK, PAIRS, SEEN};
 use internal::{insert_fit, new_internal, push_internal_level};
-use node::{CAPACITY, EDGES, KEYS, Kv, LEAF, MIN_LEN, NodeNo, Place, VALS, ascend, edge, len};
+use node::{CAPACITY, KEYS, Kv, LEAF, MIN_LEN, NodeNo, Place, VALS, ascend, edge, len};
 use store::take_node;
 
 // An empty right side: its top, and its leaf.
@@ -82,7 +82,7 @@ fn open_node(a: &mut [u64], leaf: NodeNo) -> Opening
 }
 
 // Puts a pair behind the `count` pairs of a node that has room.
-// Stays beside leaf::insert_fit, which moves the rest of both columns up by a word and reads the count: this runs for each pair of a load.
+// Stays beside leaf::insert_fit: too slow, since with it a load took 1.5 times the instructions.
 fn push_pair(a: &mut [u64], n: NodeNo, count: usize, kv: Kv)
     requires { Has a.old (λ h ns. RoomAt ns n.0 count) × (count ≡ word_at a.old n.0 length_word) }
     ensures { (h : List ℕ) (ns : List NodeVal) → RoomAt ns n.0 count → Arena a.old h ns → Arena a.new h (insert_pair ns n.0 count (pair_of kv)) }
@@ -112,6 +112,7 @@ pub struct LastLeaf {
 }
 
 // Puts a pair after all others; the last leaf has so many pairs.
+// Stays leaf and count side by side: push knows the leaf alone, and reads the count for this call.
 fn push_on(a: &mut [u64], leaf: NodeNo, count: usize, kv: Kv) -> LastLeaf
     requires { pushes.PushIn a.old leaf.0 (pair_of kv) × (count ≡ word_at a.old leaf.0 length_word) }
     ensures { (g : Rest) (l : load.Loading) → pushes.LoadIn a.old g leaf.0 l → (load.push (pair_of kv) l).next ≤ g.size → pushes.LoadIn a.new g result.leaf.0 (load.push (pair_of kv) l) × (result.count ≡ pushes.last_long (load.push (pair_of kv) l).way) }
@@ -174,6 +175,7 @@ pub fn fix_right_border_of_plentiful(a: &mut [u64])
 }
 
 // How many nodes a load of so many pairs takes.
+// Stays a while: no index is counted, each turn divides by 12.
 pub fn nodes_for(pairs: usize) -> usize
     ensures { result ≡ nodes_for pairs }
 {

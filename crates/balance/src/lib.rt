@@ -12,7 +12,7 @@ use leaf::{insert_fit, move_first_pairs, move_last_pairs, remove, replace_kv};
 use node::{CAPACITY, EDGES, INTERNAL, NodeNo, Place, len, state};
 use store::{correct_childrens_parent_links, return_node};
 
-// How many edges come with k of them: none to a leaf.
+// `k` where the node is internal, and 0 where it is a leaf, which has no edges.
 #[tactic(auto, unfolding(crate::specs::Moves::edges_with))]
 fn edges_with(a: &[u64], n: NodeNo, k: usize) -> usize
     requires { Within a.now n.0 }

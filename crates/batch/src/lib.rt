@@ -55,6 +55,7 @@ fn run(a: &mut [u64], code: u64, key: u64, val: u64) -> Answer
 }
 
 // One order.
+// Stays an answer, not a result: a put's former value and a get's value come out of one call, and a batch's words are the document's numbers.
 pub fn order(a: &mut [u64], code: u64, key: u64, val: u64) -> Answer
     ensures { Promised (promise.order (order_of code key val)) a.old a.new tt result }
 {
@@ -74,6 +75,7 @@ fn write(answers: &mut [u64], at: usize, r: Answer)
 }
 
 // All orders in turn, a refused one not stopping the rest.
+// Stays with the count beside both slices: it ties their two lengths to each other.
 fn run_all(a: &mut [u64], orders: &[u64], answers: &mut [u64], n: usize)
     requires { WellFormed a.old × (length orders.now ≡ 3 * n) × (length answers.old ≡ 2 * n) }
     ensures { (s : model.State) → Holds a.old s → Ran orders.now s a.new answers.new }

@@ -15,6 +15,7 @@ use internal::pop_internal_level;
 use node::{LeftOrRight, MIN_LEN, NodeNo, Place, edge, len};
 
 // Which border is repaired.
+// Stays beside LeftOrRight: LeftOrRight<()> would be no plainer.
 #[derive(Clone, Copy)]
 enum Border {
     Left,
@@ -22,6 +23,7 @@ enum Border {
 }
 
 // Drops empty tops, down to a leaf.
+// Stays a while: no index is counted, the height that it tests is the arena's own word.
 pub fn fix_top(a: &mut [u64])
     requires { RootedIn a.old }
     ensures { (g : Rest) (t : Grown) → Rooted a.old g t → Topped a.new g (tops t) }
@@ -122,6 +124,7 @@ pub fn fix_right_border(a: &mut [u64])
 }
 
 // The same of its left border.
+// Stays beside fix_right_border: the Rust's names (rust/NOTICE).
 pub fn fix_left_border(a: &mut [u64])
     requires { ShortOn left a.old }
     ensures { Repairs left a.old a.new }

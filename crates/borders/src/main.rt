@@ -43,7 +43,7 @@ fn mend_right(rt: &impl Print, a: &mut [u64], s: &[u8]) -> io::Result<()>
 }
 
 // The same of the left border.
-// Stays beside the right one: border has the Rust's two names, and a closure that repairs would have to promise more than these lines are long.
+// Stays beside mend_right, as left beside right: one function over both would take the repair as a closure, with a longer clause than these lines.
 fn mend_left(rt: &impl Print, a: &mut [u64], s: &[u8]) -> io::Result<()>
     requires { (length a.old ≡ length s.now) × ShortOn left (words_in s.now) }
     ensures { Repairs left (words_in s.now) a.new }

@@ -260,7 +260,8 @@ fn is_formed<F: Format>(a: &[u64]) -> bool
     finished(&arena, end)
 }
 
-// Whether the words are a well-formed arena of a format.
+// The same of the format that is told.
+// Stays a match on a value: the function is public (docs/ARCHITECTURE.md), and its clause takes the format as a value.
 pub fn well_formed_by(f: Layout, a: &[u64]) -> bool
     ensures { Decides result (WellFormedBy f a.now) }
 {
@@ -278,6 +279,8 @@ pub fn well_formed(a: &[u64]) -> bool
 }
 
 // Refuses words that are no well-formed arena.
+// Stays a clause, WellFormed, of each function behind the check: the words are lent, and the first store of a put or delete breaks it, so a
+// type would hold for the reading calls alone.
 pub fn check(a: &[u64]) -> Result<(), Refused>
     ensures promise { Promised promise.check a.now a.now tt (said_done result) }
     ensures ok { OnOk result (WellFormed a.now) }

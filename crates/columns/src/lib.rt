@@ -22,6 +22,7 @@ pub fn set_len(a: &mut [u64], n: NodeNo, len: usize)
 }
 
 // Puts a word in at a place of a column that has `count` words in use and room for one more.
+// Stays a node and its column side by side, here and below: a record of both would be made at each call and taken apart in its first line.
 pub fn insert_word(a: &mut [u64], n: NodeNo, col: usize, count: usize, at: usize, x: u64)
     requires { Within a.old n.0 × (col + count < node_size) × (at ≤ count) }
     ensures { (h : List ℕ) (fs : List Fields) (k : Column) → In fs n.0 k col count → count < room_of k → Stored a.old h fs → Stored a.new h (put_column fs n.0 k (insert_at (column k (row fs n.0)) at x)) }
@@ -88,6 +89,7 @@ fn open_words(s: &mut [u64], at: usize, x: u64)
 }
 
 // As slice_remove, of eleven words: each is written, from the first on.
+// Stays beside open_words: the words move the other way, in the other order, so one function would be two bodies under a match.
 fn close_words(s: &mut [u64], at: usize) -> u64
     requires { (length s.old ≡ most) × (at < most) }
     ensures { (result ≡ get_or s.old at 0) × (s.new ≡ remove_at s.old at ++ 0 ∷ []) }
@@ -123,6 +125,7 @@ pub fn move_last(
 }
 
 // Moves the first `count` words of the right node's column, which has `len`, behind those of the left node's, which has `at`.
+// Stays beside move_last: there room is made before the words move, here it is closed after, so one function would be two bodies under a match.
 pub fn move_first(
     a: &mut [u64],
     left: NodeNo,

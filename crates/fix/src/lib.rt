@@ -15,6 +15,7 @@ use totals::{set_right, settle};
 pub struct EmptyRoot;
 
 // The left sibling if there is one, otherwise the right one. The root has none.
+// Stays apart from border's consider_for_balancing: one of the two neighbours is the node itself, and only the other is read.
 pub fn choose_parent_kv(a: &[u64], node: NodeNo) -> Option<LeftOrRight<BalancingContext>>
     requires { Mends a.now node.0 }
     ensures { (g : Rest) (t : Grown) (m : Mending a.now g node.0 t) → result ≡ chosen m.way m.tree }
@@ -58,7 +59,7 @@ pub fn do_merge(a: &mut [u64], context: BalancingContext)
     settle(a, context.parent);
 }
 
-// Pairs moved from the sibling at its side through the parent, and counts set right: of both, and of the parent, where it changes nothing.
+// `count` pairs are moved from the sibling through the parent, and counts are set right: of both nodes, and of the parent, where it changes nothing.
 pub fn bulk_steal(a: &mut [u64], sibling: LeftOrRight<BalancingContext>, count: usize)
     requires { Stealing (side_of sibling) a.old (both_of sibling) count }
     ensures { StealCall (side_of sibling) a.old a.new (both_of sibling) count }
@@ -96,6 +97,7 @@ pub fn fix_node_through_parent(a: &mut [u64], node: NodeNo) -> Result<Option<Nod
 }
 
 // The same of a node and then, after each merge, of its parent. Answers whether the root still has pairs.
+// Stays a bool and a loop: the Rust's own; no index is counted, it climbs as long as nodes are merged.
 pub fn fix_node_and_affected_ancestors(a: &mut [u64], node: NodeNo) -> bool
     requires { Mends a.old node.0 }
     ensures { (g : Rest) (t : Grown) → Mending a.old g node.0 t → Ended result a.new g t }

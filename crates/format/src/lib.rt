@@ -15,6 +15,7 @@ use model::Refused;
 use node::{FREE, HEADER, LEAF, NONE, NodeNo, PARENT, STATE, WORDS, node_base};
 
 // The node after n in the chain, or NONE.
+// Stays a number: the word that is written.
 fn next(n: usize, count: usize) -> u64
     requires { (n < count) × (count ≤ largest_count) }
     ensures { result ≡ first_or (chain_after n count) }
@@ -51,6 +52,7 @@ pub fn write_node(s: &mut [u64], state: u64, link: u64)
 }
 
 // The free nodes 1, 2, .. N-1, each with the next one.
+// Stays with the count beside the words, here, in write_all and in the upgrade's copies: each would have to divide to find it again.
 fn write_chain(a: &mut [u64], count: usize)
     requires { Sized count (length a.old) }
     ensures { a.new ≡ take (base 1) a.old ++ cells (free_nodes 1 (count - 1)) }

@@ -80,8 +80,8 @@ pub struct Arena<'a, F: Format> {
     pub ghost within: { base_by F.layout count ≤ length words.now },
 }
 
-// Stays a clause of each, that the arena has the node: of a struct of an arena and its node the tests would have to say beside each reading
-// whose words they are, since they speak of other nodes and of the whole arena too.
+// Stays a clause of each, that the arena has the node: the tests read other nodes and the whole arena too, so a struct of an arena and one
+// node would not do for them.
 // Stays beside the readers of `node`, which are format 2's alone: of one reader for both, each call there would have to say the format.
 impl<F: Format> Arena<'_, F> {
     // The index of a node's first word.

@@ -107,6 +107,7 @@ pub fn pairs(a: &[u64]) -> u64
 }
 
 // A pair is counted, and one is counted off.
+// Stays two functions: one for both would take the direction and match on it, and each asks something else of the count.
 pub fn count_on(a: &mut [u64])
     requires { (header_size ≤ length a.old) × (header a.old pairs_word + 1 < 18446744073709551616) }
     ensures { a.new ≡ set a.old pairs_word (header a.old pairs_word + 1) }
@@ -146,6 +147,7 @@ pub fn set_free_nodes(a: &mut [u64], first: u64, nodes: usize)
 }
 
 // 1 if a mark was seen, and the mark, which is 0 until then.
+// Stays two words: the checker reads them before they are known to be a mark; all others read stored_mark.
 pub fn seen(a: &[u64]) -> u64
     requires { header_size ≤ length a.now }
     ensures { result ≡ header a.now seen_word }

@@ -105,6 +105,7 @@ fn split_root(a: &mut [u64], split: SplitResult)
 }
 
 // Puts a new pair in at a leaf edge; splits go up by parent words. There are nodes enough.
+// Stays a while: no index is counted, it climbs as long as nodes are split.
 pub fn insert_recursing(a: &mut [u64], edge: Handle, kv: Kv)
     requires { In a.old (λ s. Roomy s edge) }
     ensures { (s : model.State) → Holds a.old s → (y : Roomy s edge) → ClosedIn a.new (rest_of s) (rise y.edge.way tt (pair_of kv) tt s.free) }
@@ -122,7 +123,7 @@ pub fn insert_recursing(a: &mut [u64], edge: Handle, kv: Kv)
 }
 
 // How many nodes a new pair at this leaf edge takes: the run of full nodes upwards, and 1 if it includes the root.
-// Stays a counted walk: the count is the answer, and a for over the levels would need one after its end too, which no tree comes to.
+// Stays a counted walk: the count is the answer, and a for over the levels would need an answer after its end as well, which no tree comes to.
 pub fn nodes_needed(a: &[u64], edge: Handle) -> usize
     requires { In a.now (λ s. EdgeAt s edge) }
     ensures { (s : model.State) → Holds a.now s → (y : EdgeAt s edge) → result ≡ needed y.way }

@@ -14,10 +14,11 @@ use node::{
     TOTAL, VALS,
 };
 
-// From each word for a key to the next one.
+// How many words for keys have another one after them.
 const STEPS: usize = 10;
 
 // A node that an edge leads to: the levels below it, the fewest pairs it may hold, its number, the node and the edge that lead there.
+// Stays a number, the parent: the word that the node must have there, NONE at the root.
 #[derive(Clone, Copy)]
 pub struct Visit {
     pub below: usize,

@@ -65,6 +65,7 @@ pub fn insert_fit(a: &mut [u64], n: NodeNo, at: Place, kv: Kv, right: NodeNo)
 }
 
 // Splits an internal node at a pair, which rises; the pairs and edges after it go to a new node.
+// Stays beside leaf::split: the Rust's names (rust/NOTICE).
 pub fn split(a: &mut [u64], n: NodeNo, at: Place) -> SplitResult
     requires { Has a.old (λ h ns. Cuttable h ns n.0 at.0 × Branches ns n.0) }
     ensures { (h : List ℕ) (ns : List NodeVal) (free : List ℕ) → CutReady h ns free n.0 at.0 → Branches ns n.0 → Arena a.old h ns → Cut free ns n.0 at.0 result.right.0 (pair_of result.kv) × Arena a.new (take_head h free) (split_nodes ns n.0 (taken free) at.0) }

@@ -30,6 +30,7 @@ fn check_size(words: &[u64]) -> Result<(), Refused>
 }
 
 // The cursor of the words. Any other number for where it stands is no end, and no node has that number.
+// Stays numbers, converted here and in words_of alone: the words that a caller in C keeps.
 fn read(words: &[u64]) -> Result<Cursor, Refused>
     ensures { ReadBy words.now result }
 {

@@ -91,6 +91,7 @@ pub fn move_last_pairs(a: &mut [u64], left: NodeNo, right: NodeNo, from: Place)
 }
 
 // Moves the first `count` pairs of the right node behind those of the left one.
+// Stays beside move_last_pairs, as columns::move_first beside move_last.
 pub fn move_first_pairs(a: &mut [u64], left: NodeNo, right: NodeNo, count: usize)
     requires { Has a.old (λ h ns. FirstReady ns left.0 right.0 count) }
     ensures { (h : List ℕ) (ns : List NodeVal) → FirstReady ns left.0 right.0 count → Arena a.old h ns → Arena a.new h (first_pairs ns left.0 right.0 count) }

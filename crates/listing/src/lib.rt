@@ -67,6 +67,7 @@ fn peek_within(a: &[u64], from: Handle, end: SearchBound) -> Head
 }
 
 // Writes the pairs from a leaf edge up to the end, or up to the room.
+// Stays with words at 2 * wrote: the count of pairs is the answer, and would be counted beside chunks all the same.
 fn write_from(a: &[u64], from: Handle, end: SearchBound, out: &mut [u64]) -> Page
     requires { In a.now (λ s. EdgeAt s from) }
     ensures { (s : State) → Holds a.now s → (y : EdgeAt s from) → Written end y.way out.old out.new result }

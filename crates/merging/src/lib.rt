@@ -66,6 +66,7 @@ pub fn merge_count(a: &[u64], b: &[u64]) -> usize
 }
 
 // Writes the merged run, key and value in turn, over the first words; answers how many pairs.
+// Stays beside merge_count, which has no words to write to: one walk for both would take a closure, and its clause would be longer than the loop.
 pub fn merge_into(a: &[u64], b: &[u64], out: &mut [u64]) -> usize
     requires { WellFormed a.now × WellFormed b.now × Fits a.now b.now out.old }
     ensures { (s t : State) → Holds a.now s → Holds b.now t → (out.new ≡ laid (joined_run s t) out.old) × (result ≡ length (joined_run s t)) }

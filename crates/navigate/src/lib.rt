@@ -13,10 +13,12 @@ ghost use Rattle.search.specs.Results.{leaf_edge};
 ghost use Rattle.navigate.specs.Places.{In, EdgeAt, KvAt, stepped};
 
 use model::SearchBound;
-use node::{NodeNo, Place, ascend, edge, keys, len};
+use node::{Place, ascend, edge, keys, len};
 use search::{Handle, find_lower_bound_index};
 
 // The pair right of a leaf edge, in its leaf or above.
+// Stays a clause of each, that the handle is a place of the tree: a Handle holds no words, so it cannot say of which arena.
+// Stays a loop, as the way back does: no index is counted, it climbs until a node has a pair on that side.
 pub fn next_kv(a: &[u64], from: Handle) -> Option<Handle>
     requires { In a.now (λ s. EdgeAt s from) }
     ensures { (s : State) → Holds a.now s → (y : EdgeAt s from) → result ≡ stepped (next_kv y.way) }
@@ -33,7 +35,7 @@ pub fn next_kv(a: &[u64], from: Handle) -> Option<Handle>
 }
 
 // The pair left of a leaf edge, in its leaf or above.
-// Stays beside next_kv: the Rust's names.
+// Stays beside next_kv: the Rust's names (rust/NOTICE).
 pub fn next_back_kv(a: &[u64], from: Handle) -> Option<Handle>
     requires { In a.now (λ s. EdgeAt s from) }
     ensures { (s : State) → Holds a.now s → (y : EdgeAt s from) → result ≡ stepped (back_kv y.way) }
@@ -69,7 +71,7 @@ pub fn next_leaf_edge(a: &[u64], kv: Handle) -> Handle
 }
 
 // The leaf edge left of a pair: below its left edge, the last edge at each level.
-// Stays beside next_leaf_edge: the Rust's names.
+// Stays beside next_leaf_edge: the Rust's names (rust/NOTICE).
 pub fn next_back_leaf_edge(a: &[u64], kv: Handle) -> Handle
     requires { In a.now (λ s. KvAt s kv) }
     ensures { (s : State) → Holds a.now s → (y : KvAt s kv) → result ≡ leaf_edge (back_edge y.ctx y.no y.left y.hole y.item y.right) }

@@ -22,7 +22,7 @@ pub const CAPACITY: usize = 11;
 pub const MIN_LEN: usize = 5;
 
 // A node's state.
-// Stays numbers: words of the arena, read and compared as they lie there; clauses (`balance::edges_with`) speak of any word, which no enum has.
+// Stays numbers: words of the arena; what the public `state` promises is the word itself, which in an arena not yet checked may be any.
 pub const FREE: u64 = 0;
 
 pub const LEAF: u64 = 1;
@@ -58,7 +58,8 @@ pub struct Place(pub usize);
 #[derive(Clone, Copy)]
 pub struct Kv(pub u64, pub u64);
 
-// Stays functions of the words and a number: a view of a node would borrow the words, be made anew after each write, and ask `Within` there.
+// Stays functions of the words and a number, each with its clause Within or Has, here and above: a view of a node would borrow the words and
+// have to be made and proved again after each write.
 
 // The index of a node's first word.
 pub fn node_base(n: NodeNo) -> usize
@@ -165,6 +166,7 @@ pub fn edge(a: &[u64], n: NodeNo, at: Place) -> NodeNo
 }
 
 // One of two sides, with what it is there.
+// Stays an enum: the Rust's own.
 #[derive(Clone, Copy)]
 pub enum LeftOrRight<T> {
     Left(T),

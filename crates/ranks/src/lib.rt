@@ -22,6 +22,7 @@ use node::{NodeNo, Place, edge, key, keys, len, total, val};
 use search::{Handle, find_lower_bound_index};
 
 // Where a rank leads in a node: to a pair of it, or below an edge, with the rank that is left there.
+// Stays an enum: neither way is a failure, as in search::IndexResult.
 #[derive(Clone, Copy)]
 pub enum Lead {
     Kv(Place),
@@ -29,6 +30,7 @@ pub enum Lead {
 }
 
 // The pairs of a node, and below it, that are left of one of its edges.
+// Stays beside totals' tally: one function for both would take the number that it begins with, and be no plainer than the loop.
 fn left_of(a: &[u64], node: NodeNo, at: Place) -> u64
     requires { In a.now (λ s. EdgeIn s node.0 at.0) }
     ensures { (s : State) → Holds a.now s → (h : ℕ) (p : At s node.0 (suc h)) → at.0 ≤ length p.tree.rest → result ≡ length (lefts (flat (suc h)) (open_at at.0 [] p.tree.first p.tree.rest).left) }
@@ -41,6 +43,7 @@ fn left_of(a: &[u64], node: NodeNo, at: Place) -> u64
 }
 
 // How many pairs are before the first that a start bound admits. The child's bound replaces the bound on the way down.
+// Stays beside navigate::lower_leaf_edge, the same way down: that one begins each listing, and would add up counts for nothing.
 pub fn passed(a: &[u64], start: SearchBound) -> u64
     requires { WellFormed a.now }
     ensures { (s : State) → Holds a.now s → result ≡ length (before (sink (starts start) s.whole.height top s.whole.root)) }

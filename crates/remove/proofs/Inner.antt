@@ -101,10 +101,6 @@ module _ {s : State} (o : Sound s) where
       let b = last_before (suc h) (under (record { no = n; left = l; right = x ∷ r }) c) e in
       record { prior = last_edge_lem (last_of h (under (record { no = n; left = l; right = x ∷ r }) c) e tt) x.pair _ (b.2 ∙ w) b.1; by = refl }
 
--- its place
-pub before_kv : {s : State} {z : Ctx 0} {p : Pair} (q : Before s z p) → LeafKv s (handle q.no 0 (length q.left))
-before_kv q = record { ctx = q.ctx; no = q.no; left = q.left; item = q.item; right = []; whole = q.whole; node_is = refl; at_is = refl }
-
 -- ---- the pair found again in the state t
 
 module _ {t : State} (o : Sound t) (p : Pair) (a b : List Pair) (e : list t ≡ a ++ p ∷ b) where

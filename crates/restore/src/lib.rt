@@ -54,6 +54,7 @@ fn too_old(image: &[u64], a: &[u64], older: bool) -> bool
 
 // Copies the image's words over the arena; seen is 1 if either had it, and the mark is the larger of those seen. It is raised first. An
 // image with a lower mark than the arena's needs the word that an older one is meant.
+// Stays a test of the image: `check` would refuse it as BadArena.
 pub fn restore(a: &mut [u64], image: &[u64], older: bool) -> Result<(), Refused>
     ensures { Promised (promise.restore older image.now) a.old a.new tt (said_done result) }
 {

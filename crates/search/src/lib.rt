@@ -23,6 +23,7 @@ pub struct Handle {
 }
 
 // The pair's place, or else the leaf edge where the search stopped.
+// Stays an enum, as IndexResult does: the Rust's own, by name.
 #[derive(Clone, Copy)]
 pub enum SearchResult {
     Found(Handle),
@@ -127,6 +128,7 @@ pub fn search_tree_for_bifurcation(a: &[u64], range: Range) -> Result<Parting, H
 }
 
 // The place of a key among a node's keys, or the edge where it belongs, from a place on.
+// Stays a clause, that the keys rise, of each function that takes them: a type that says it would be made at every node of a search.
 pub fn find_key_index(keys: &[u64], key: u64, start: Place) -> IndexResult
     requires { (start.0 ≤ length keys.now) × Rises keys.now }
     ensures { result ≡ indexed (key_index key start.0 (drop start.0 keys.now)) }
@@ -197,7 +199,7 @@ pub fn find_lower_bound_index(keys: &[u64], bound: SearchBound) -> (Place, Searc
 }
 
 // The same of an end bound, from a place on.
-// Stays beside find_lower_bound_index: the Rust's names, and its cases.
+// Stays beside find_lower_bound_index: the Rust's names and cases (rust/NOTICE).
 pub fn find_upper_bound_index(
     keys: &[u64],
     bound: SearchBound,

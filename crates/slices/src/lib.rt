@@ -38,6 +38,7 @@ pub fn slice_shl(s: &mut [u64], distance: usize)
 }
 
 // Moves all words up by distance, the last ones out; zeros come in at the start.
+// Stays beside slice_shl: the Rust's names (rust/NOTICE).
 pub fn slice_shr(s: &mut [u64], distance: usize)
     requires { distance ≤ length s.old }
     ensures { s.new ≡ replicate distance 0 ++ take (length s.old - distance) s.old }

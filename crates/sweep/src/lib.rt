@@ -22,13 +22,11 @@ fn goes(a: &[u64], n: NodeNo, least: u64) -> bool
     if len(a, n) == 0 {
         return false;
     }
-    if least <= key(a, n, Place(0)) {
-        return true;
-    }
-    false
+    least <= key(a, n, Place(0))
 }
 
 // A node becomes a free one, with the next of the chain.
+// Stays beside store's set_free, which asks for an empty node: this one clears what the node held.
 fn set_free(a: &mut [u64], n: NodeNo, next: u64)
     requires { Within a.old n.0 }
     ensures { (h : List ℕ) (ns : List NodeVal) → n.0 < length ns → Arena a.old h ns → Arena a.new h (set ns n.0 (free_val next)) }
@@ -39,6 +37,7 @@ fn set_free(a: &mut [u64], n: NodeNo, next: u64)
 }
 
 // The nodes that go become the free chain.
+// Stays with free counted in the loop: it writes as it goes, and a chain would go over the nodes twice.
 pub fn sweep(a: &mut [u64], least: u64)
     requires { Has a.old (λ h ns. (header h count_word ≡ length ns) × (length ns ≤ largest_count)) }
     ensures { (h : List ℕ) (ns : List NodeVal) → header h count_word ≡ length ns → Arena a.old h ns → Arena a.new (swept_head least h ns) (swept least 0 ns) }

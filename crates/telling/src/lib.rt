@@ -52,7 +52,7 @@ pub fn say_line(rt: &impl Print, a: &[u64]) -> io::Result<()> {
 
 // Reads until the buffer is full or the input ends; how many bytes were read, which lie at the buffer's front. Where a reading fails, those
 // that came before it are in the buffer, and how many is not told.
-// Stays a while: it goes on by what a reading gave, not by one; std has no reading that tells how much came before the end, but into a Vec (no heap).
+// Stays a while: it goes on by what a reading gave, not by one; std has no reading that tells how much came before the end, except into a Vec (no heap).
 pub fn read_full<R: Read>(input: &mut R, buf: &mut [u8]) -> io::Result<usize>
     ensures bound { ReadsAtMost result buf.new }
     ensures bytes { IfOk result (λ n. Consumes (R.remaining input.old) (R.remaining input.new) (take n buf.new)) }
@@ -113,6 +113,7 @@ pub fn mix_words(so_far: u64, a: &[u64]) -> u64
 }
 
 // The key `step` after one, round and round.
+// Stays a comparison: what it promises is told by cases (around_of), and a remainder would have to be led back to them.
 pub fn around(key: u64, step: u64, round: u64) -> u64
     requires { (key < round) × (step < round) × (round ≤ 4294967296) }
     ensures { (result < round) × (result ≡ around_of key step round) }

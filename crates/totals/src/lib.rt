@@ -25,6 +25,7 @@ fn tally(a: &[u64], n: NodeNo, end: usize) -> u64
 }
 
 // How many edges a node has.
+// Stays beside balance's edges_with: edges_with(a, n, len(a, n) + 1) in its place would be no plainer.
 fn edge_count(a: &[u64], n: NodeNo) -> usize
     requires { Within a.now n.0 × (word_at a.now n.0 length_word ≤ most) }
     ensures { result ≡ edges_with (word_at a.now n.0 state_word) (word_at a.now n.0 length_word + 1) }

@@ -55,6 +55,7 @@ fn copy_all(to: &mut [u64], from: &[u64], count: usize)
 }
 
 // The upgrade. The source is only read; the target's words do not matter, only how many there are.
+// Stays a test of its own: `check` is of format 2.
 pub fn upgrade(source: &[u64], target: &mut [u64]) -> Result<(), Refused>
     ensures { Promised (promise.upgrade source.now) target.old target.new tt (said_done result) }
 {

@@ -2,8 +2,6 @@
 -- Assumes nothing.
 use mathlib.Core.Path.{sym, ap, ◌∙◌}
 use lib.Dec.{leb}
-use borrow.Author.Tests.{le-leb, lt-leb}
-use native.Mathlib.Omega.{arith}
 use Rattle.cutting.proofs.Sweeps.{is_free, is_empty, is_other}
 use Rattle.sweep.proofs.goes.Goals as goal
 
@@ -19,14 +17,8 @@ returns-then-len-eq0 c =
     let x = c.args in
     sym (is_empty a x.least x.n.0 o (λ e. c.if-state-eq-FREE.false (c.state.ensures ∙ e)) (sym c.len.ensures ∙ c.if-len-eq0.true))
 
-pub returns-then-least-key : goal.returns-then-least-key
-returns-then-least-key c =
-    λ h ns o a.
-    let x = c.args in
-    sym (is_other a x.least x.n.0 o (λ e. c.if-state-eq-FREE.false (c.state.ensures ∙ e)) (λ e. c.if-len-eq0.false (c.len.ensures ∙ e)) ∙ ap (leb x.least) (sym c.key.ensures) ∙ le-leb x.least c.key.result c.if-least-key.true)
-
 pub returns : goal.returns
 returns c =
     λ h ns o a.
     let x = c.args in
-    sym (is_other a x.least x.n.0 o (λ e. c.if-state-eq-FREE.false (c.state.ensures ∙ e)) (λ e. c.if-len-eq0.false (c.len.ensures ∙ e)) ∙ ap (leb x.least) (sym c.key.ensures) ∙ lt-leb x.least c.key.result (omega (arith, c.if-least-key.false)))
+    sym (is_other a x.least x.n.0 o (λ e. c.if-state-eq-FREE.false (c.state.ensures ∙ e)) (λ e. c.if-len-eq0.false (c.len.ensures ∙ e)) ∙ ap (leb x.least) (sym c.key.ensures))
