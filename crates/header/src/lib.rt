@@ -3,7 +3,7 @@
 
 ghost use Rattle.std.specs.Prelude.{◌≡◌, ◌+◌, ◌-◌, ◌<◌, ◌≤◌, length, set};
 ghost use Rattle.model.specs.Layout.{header_size, header, format_word, count_word, offset_word, root_word, height_word, pairs_word, first_free_word, free_word, seen_word, mark_word};
-ghost use Rattle.model.specs.Mark.{seen_of, mark_of, stored_mark};
+ghost use Rattle.model.specs.Mark.{stored_mark};
 ghost use Rattle.header.specs.Headers.{Counted, marked, raised};
 
 use node::{HEADER, NodeNo, WORDS};
@@ -180,12 +180,4 @@ pub fn stored_mark(a: &[u64]) -> Option<u64>
         return None;
     }
     Some(a[MARK])
-}
-
-pub fn set_mark(a: &mut [u64], mark: Option<u64>)
-    requires { header_size ≤ length a.old }
-    ensures { a.new ≡ set (set a.old seen_word (seen_of (marked mark))) mark_word (mark_of (marked mark)) }
-{
-    a[SEEN] = u64::from(mark.is_some());
-    a[MARK] = mark.unwrap_or(0);
 }
