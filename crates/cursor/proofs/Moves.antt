@@ -186,10 +186,8 @@ module _ {w : List ℕ} (n : ℕ) (c : Cursor) where
   same_cursor a = λ t. record { changes = sym a.same t; stand = ap stand_of a.stand_is t }
 
   pub made_step : (f : on.Cursor → State → on.Moved) {st : Stand} (m : Stand × Option (ℕ × ℕ)) → Allows w n c st → ((s : State) → Holds w s → moved_of n m ≡ f (record { changes = n; stand = stand_of st }) s)
-      → Walk (f (cursor_of c)) (cursor_of c) w w (record { changes = c.changes; stand = stand_of m.0 }) (said_picked (Ok m.1))
-  made_step f m a g =
-      subst (λ (k : ℕ). Walk (f (cursor_of c)) (cursor_of c) w w (record { changes = k; stand = stand_of m.0 }) (said_picked (Ok m.1))) (sym a.same)
-      (walk_done (f (cursor_of c)) (cursor_of c) n m a.formed (λ s o. g s o ∙ ap (λ (d : on.Cursor). f d s) (same_cursor a)))
+      → Walk (f (cursor_of c)) (cursor_of c) w w (record { changes = n; stand = stand_of m.0 }) (said_picked (Ok m.1))
+  made_step f m a g = walk_done (f (cursor_of c)) (cursor_of c) n m a.formed (λ s o. g s o ∙ ap (λ (d : on.Cursor). f d s) (same_cursor a))
 
 -- an open bound admits the first pair
 from_all : (ps : List on.Post) → on.from AllIncluded ps ≡ ps

@@ -1,7 +1,7 @@
 // The walking cursor (map.rs, Cursor): a small value that goes from pair to pair, both ways. Each call checks the arena first.
 #![tactic(auto)]
 
-ghost use Rattle.std.specs.Prelude.{◌≡◌, ℕ};
+ghost use Rattle.std.specs.Prelude.{◌≡◌, ℕ, Err};
 ghost use Rattle.model.specs.Search.{Spot};
 ghost use Rattle.model.specs.State.{State, At};
 ghost use Rattle.model.specs.WellFormed.{WellFormed};
@@ -152,12 +152,8 @@ impl Stand {
 pub fn first(a: &[u64], changes: u64) -> (Cursor, Found)
     ensures { Promised (promise.first changes) a.now a.now (cursor_of result.0) (said_picked result.1) }
 {
-    let mut cursor = Cursor {
-        changes,
-        stand: Stand::Past,
-    };
-    let found = cursor.seek(a, changes, SearchBound::AllIncluded);
-    (cursor, found)
+    let stand = Stand::Past;
+    Cursor { changes, stand }.seek(a, changes, SearchBound::AllIncluded)
 }
 
 // A cursor at the last pair.
@@ -172,17 +168,18 @@ pub fn last(a: &[u64], changes: u64) -> (Cursor, Found)
     (Cursor { changes, stand }, Ok(found))
 }
 
+// Stays by value: each step takes the cursor and hands back the moved one, a rule of the project (docs/DECISIONS.md 97).
 impl Cursor {
     // To the first pair that a start bound admits, wherever the cursor stood and whatever its count was. Refused, it stands past the last pair.
-    pub fn seek(&mut self, a: &[u64], changes: u64, start: SearchBound) -> Found
-        ensures { Promised (promise.seek changes start) a.now a.now (cursor_of self.new) (said_picked result) }
+    pub fn seek(self, a: &[u64], changes: u64, start: SearchBound) -> (Cursor, Found)
+        ensures { Promised (promise.seek changes start) a.now a.now (cursor_of result.0) (said_picked result.1) }
     {
-        self.changes = changes;
-        self.stand = Stand::Past;
-        check(a)?;
+        if let Err(refused) = check(a) {
+            let stand = Stand::Past;
+            return (Cursor { changes, stand }, Err(refused));
+        }
         let (stand, found) = from_start(a, start);
-        self.stand = stand;
-        Ok(found)
+        (Cursor { changes, stand }, Ok(found))
     }
 
     // Where it stands, unless a step from there is refused: the count must be the cursor's, and a place must still hold a pair.
@@ -199,21 +196,36 @@ impl Cursor {
         }
     }
 
-    // To the next pair. Refused, the cursor stays where it was.
-    pub fn next(&mut self, a: &[u64], changes: u64) -> Found
-        ensures { Promised (promise.next changes (cursor_of self.old)) a.now a.now (cursor_of self.new) (said_picked result) }
+    // A refused step: the cursor stays where it was.
+    fn refused(self, refusal: Refused) -> (Cursor, Found)
+        ensures { result ≡ (self, Err refusal) }
     {
-        let (stand, found) = self.checked(a, changes)?.next(a);
-        self.stand = stand;
-        Ok(found)
+        (self, Err(refusal))
+    }
+
+    // To the next pair.
+    pub fn next(self, a: &[u64], changes: u64) -> (Cursor, Found)
+        ensures { Promised (promise.next changes (cursor_of self)) a.now a.now (cursor_of result.0) (said_picked result.1) }
+    {
+        match self.checked(a, changes) {
+            Ok(here) => {
+                let (stand, found) = here.next(a);
+                (Cursor { changes, stand }, Ok(found))
+            }
+            Err(refusal) => self.refused(refusal),
+        }
     }
 
     // To the pair before.
-    pub fn previous(&mut self, a: &[u64], changes: u64) -> Found
-        ensures { Promised (promise.previous changes (cursor_of self.old)) a.now a.now (cursor_of self.new) (said_picked result) }
+    pub fn previous(self, a: &[u64], changes: u64) -> (Cursor, Found)
+        ensures { Promised (promise.previous changes (cursor_of self)) a.now a.now (cursor_of result.0) (said_picked result.1) }
     {
-        let (stand, found) = self.checked(a, changes)?.previous(a);
-        self.stand = stand;
-        Ok(found)
+        match self.checked(a, changes) {
+            Ok(here) => {
+                let (stand, found) = here.previous(a);
+                (Cursor { changes, stand }, Ok(found))
+            }
+            Err(refusal) => self.refused(refusal),
+        }
     }
 }

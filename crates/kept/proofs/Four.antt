@@ -1,6 +1,6 @@
 -- A refused step, on the words.
 -- Assumes nothing.
-use Rattle.std.proofs.Common.{◌≡◌, ℕ, refl, subst, List, Err}
+use Rattle.std.proofs.Common.{◌≡◌, ℕ, refl, subst, List, Option, Result, Err}
 use Rattle.model.specs.declared.Picked.{Picked}
 use Rattle.model.specs.declared.Refused.{Refused}
 use Rattle.model.specs.declared.Refused.TheVariants.{NoRoom, BadArena, BadRange, BadOrder, BadSize, BadImage, StaleCursor, NotRising, Spent, Older}
@@ -22,5 +22,6 @@ step_kept Spent c u = refl
 step_kept Older c u = refl
 
 -- the refused step of a cursor d that was read from the words u
-pub step_refused : (P : Cursor → Cursor → Picked → Type 0) (u : List ℕ) (d c : Cursor) → d ≡ cursor_by u → (r : Refused) → P d c (said_picked (Err r)) → Steps P u u (said_picked (Err r))
-step_refused P u d c e r x = record { cursor = c; given = subst (λ (b : Cursor). P b c (said_picked (Err r))) e x; written = step_kept r c u }
+pub step_refused : (P : Cursor → Cursor → Picked → Type 0) (u : List ℕ) (d c : Cursor) → d ≡ cursor_by u → (f : Result (Option (ℕ × ℕ)) Refused) (r : Refused) → f ≡ Err r → P d c (said_picked f) → Steps P u u (said_picked (Err r))
+step_refused P u d c e f r q x =
+    record { cursor = c; given = subst (λ (b : Cursor). P b c (said_picked (Err r))) e (subst (λ (g : Result (Option (ℕ × ℕ)) Refused). P d c (said_picked g)) q x); written = step_kept r c u }

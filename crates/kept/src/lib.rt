@@ -90,8 +90,7 @@ pub fn keep_last(a: &[u64], changes: u64, words: &mut [u64]) -> Found
 pub fn keep_seek(a: &[u64], changes: u64, start: SearchBound, words: &mut [u64]) -> Found
     ensures { Making (Promised (promise.seek changes start) a.now a.now) words.old words.new (said_picked result) }
 {
-    let mut cursor = read(words)?;
-    let found = cursor.seek(a, changes, start);
+    let (cursor, found) = read(words)?.seek(a, changes, start);
     write(words, cursor);
     found
 }
@@ -111,18 +110,18 @@ pub fn keep_none(a: &[u64], changes: u64, words: &mut [u64]) -> Found
 pub fn keep_next(a: &[u64], changes: u64, words: &mut [u64]) -> Found
     ensures { Stepping (λ c. Promised (promise.next changes c) a.now a.now) words.old words.new (said_picked result) }
 {
-    let mut cursor = read(words)?;
-    let found = cursor.next(a, changes)?;
+    let (cursor, found) = read(words)?.next(a, changes);
+    let pair = found?;
     write(words, cursor);
-    Ok(found)
+    Ok(pair)
 }
 
 // To the pair before.
 pub fn keep_previous(a: &[u64], changes: u64, words: &mut [u64]) -> Found
     ensures { Stepping (λ c. Promised (promise.previous changes c) a.now a.now) words.old words.new (said_picked result) }
 {
-    let mut cursor = read(words)?;
-    let found = cursor.previous(a, changes)?;
+    let (cursor, found) = read(words)?.previous(a, changes);
+    let pair = found?;
     write(words, cursor);
-    Ok(found)
+    Ok(pair)
 }

@@ -8,8 +8,9 @@ use Rattle.cursor.specs.Cursors.{cursor_of}
 use Rattle.kept.proofs.Four.{step_refused}
 use Rattle.kept.proofs.keep_previous.Goals as goal
 
-pub returns-in_err-found : goal.returns-in_err-found
-returns-in_err-found c =
-    let p = err_from_is_err_and c.from_residual-in_err-found.result c.from_residual-in_err-found.ensures.1 in
-    let k = c.in_ok-cursor in
-    rw (p.1, p.2) (inr ((λ b. b k.ensures.0), step_refused (λ d. Promised (promise.previous c.args.changes d) c.args.a.now c.args.a.now) c.args.words.now (cursor_of k.cursor) (cursor_of c.previous.new.self) k.ensures.1 _ c.in_err-found.ensures))
+pub returns-in_err-pair : goal.returns-in_err-pair
+returns-in_err-pair c =
+    let p = err_from_is_err_and c.from_residual-in_err-pair.result c.from_residual-in_err-pair.ensures.1 in
+    let k = c.in_ok-read in
+    let f = c.previous-found in
+    rw (p.1, p.2) (inr ((λ b. b k.ensures.0), step_refused (λ d. Promised (promise.previous c.args.changes d) c.args.a.now c.args.a.now) c.args.words.now (cursor_of k.field-0) (cursor_of f.result.0) k.ensures.1 f.result.1 _ c.in_err-pair.was f.ensures))

@@ -1,12 +1,11 @@
 -- `cursor::Cursor::next` meets its contract.
 -- Assumes nothing.
-use Rattle.std.proofs.lemmas.Result.{err_from_is_err_and}
 use Rattle.model.specs.Cursor as on
 use Rattle.cursor.proofs.Moves.{next_refused, made_step}
 use Rattle.cursor.proofs.Cursor.next.Goals as goal
 
-pub returns-in_err-checked : goal.returns-in_err-checked
-returns-in_err-checked c = let p = err_from_is_err_and c.from_residual.result c.from_residual.ensures.1 in rw (p.1, p.2) (next_refused c.args.changes c.args.self.now _ c.in_err-checked.ensures)
+pub returns-in-Ok : goal.returns-in-Ok
+returns-in-Ok c = made_step c.args.changes c.args.self (on.next c.args.changes) c.next-stand.result c.in-Ok.ensures (λ s o. c.next-stand.ensures s o c.args.changes)
 
-pub returns : goal.returns
-returns c = made_step c.args.changes c.args.self.now (on.next c.args.changes) c.next-stand.result c.in_ok-checked.ensures (λ s o. c.next-stand.ensures s o c.args.changes)
+pub returns-in-Err : goal.returns-in-Err
+returns-in-Err c = rw c.refused.ensures (next_refused c.args.changes c.args.self _ c.in-Err.ensures)
