@@ -244,9 +244,6 @@ gaps_right ns [] = tt
 gaps_right ns (x ∷ r) = (tt, gaps_right ns r)
 
 module _ {w hd : List ℕ} {ns : List NodeVal} {n : ℕ} (a : Arena w hd ns) where
-  pub leaf_tree : (b : ℕ) → b ≡ 0 → TreeIn ns n b → TreeIn ns n 0
-  leaf_tree b e K = subst (TreeIn ns n) e K
-
   pub leaf_done : (b : ℕ) → b ≡ 0 → (K : TreeIn ns n b) → {w' : List ℕ} → CountCall w w' n 0 → CountedIn w' hd ns b K.tree
   leaf_done zero e K call = call hd ns K a
   leaf_done (suc h) e K call = absurd (omega arith)

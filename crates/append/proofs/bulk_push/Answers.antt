@@ -1,6 +1,6 @@
 -- `append::bulk_push` meets its contract: so many pairs of the run are pushed.
 -- Assumes nothing.
-use Rattle.std.proofs.Common.{[], ℕ, List, ◌+◌, ◌/◌, ◌≤◌, ◌≡◌, refl, sym, ◌∙◌, length, take, get_or, arith}
+use Rattle.std.proofs.Common.{[], ℕ, List, ◌+◌, ◌/◌, ◌≤◌, ◌≡◌, sym, ◌∙◌, length, take, get_or, arith}
 use mathlib.Core.Path.{subst}
 use lib.Seq.{take_all}
 use Rattle.std.specs.Simd.{first_chunks}
@@ -18,9 +18,6 @@ use Rattle.append.proofs.bulk_push.Goals.{In-loop-key}
 
 pub root-requires : goal.root-requires
 root-requires c = omega (arith, load_long c.requires.begins.load)
-
-pub loop-key-init : goal.loop-key-init
-loop-key-init c = (refl, λ g b. rw c.root.ensures b.load)
 
 -- a pair more is there
 inside : (c : In-loop-key) → let i = c.loop-key.key-index in i + i + 2 ≤ length c.args.run.now

@@ -1,9 +1,8 @@
 -- `append::open_node` meets its contract: every load that the push was going to where the loop began, it is going to still.
 -- Assumes nothing.
 use Prim.Native.Nat.{◌+◌}
-use mathlib.Core.Path.{refl, sym, ap, ◌∙◌}
+use mathlib.Core.Path.{sym, ap, ◌∙◌}
 use native.Mathlib.Omega.{arith}
-use lib.ListN.{length}
 use Rattle.model.specs.Layout.{header, height_word}
 use Rattle.model.specs.Tree.{Pair}
 use Rattle.standing.specs.Heads.{Rest}
@@ -17,17 +16,11 @@ use Rattle.append.proofs.open_node.Goals.{At-loop-parent, Else-len-lt-CAPACITY}
 known : (c : At-loop-parent) → let s = c.requires in Rising c.loop-parent.a s.rest c.loop-parent.node.0 c.loop-parent.levels s.pair s.end
 known c = let s = c.requires in c.loop-parent.invariant.1 s.rest s.pair s.end s.rising
 
-pub loop-parent-init : goal.loop-parent-init
-loop-parent-init c = (refl, λ g p t k. k)
-
 pub ascend-requires : goal.ascend-requires
 ascend-requires c = rising_within (known c)
 
 pub push_internal_level-root-requires : goal.push_internal_level-root-requires
 push_internal_level-root-requires c = (rooting (known (goal.at.push_internal_level-root-requires c).At-loop-parent) (sym c.ascend.ensures ∙ c.in_default.is)).asks
-
-pub shape_of-a-in_default : goal.shape_of-a-in_default
-shape_of-a-in_default c = c.push_internal_level-root.auto.a ∙ ap length c.loop-parent.invariant.0
 
 pub returns-in_default : goal.returns-in_default
 returns-in_default c =
@@ -38,9 +31,6 @@ pub len-requires : goal.len-requires
 len-requires c =
     let d = c in
     above_within (known (goal.at.len-requires c).At-loop-parent) d.in-Some.parent d.in-Some.field-0-1 (sym d.ascend.ensures ∙ d.in-Some.is)
-
-pub shape_of-a-then-len-lt-CAPACITY : goal.shape_of-a-then-len-lt-CAPACITY
-shape_of-a-then-len-lt-CAPACITY c = ap length c.loop-parent.invariant.0
 
 pub returns-then-len-lt-CAPACITY : goal.returns-then-len-lt-CAPACITY
 returns-then-len-lt-CAPACITY c =

@@ -16,9 +16,6 @@ returns-then-count-lt-CAPACITY c =
     let e = c.requires.1 in
     ((last o).done _ e c.if-count-lt-CAPACITY.true _ _ c.push_pair.ensures, ap (λ (k : ℕ). k + 1) (e ∙ (last o).long) ∙ (sym (push_more _ l o.filling o.inner (omega (arith, c.if-count-lt-CAPACITY.true, (last o).long)))))
 
-pub push_up-last-requires : goal.push_up-last-requires
-push_up-last-requires c = (c.requires.0, omega (arith, c.if-count-lt-CAPACITY.false, c.requires.1))
-
 pub returns : goal.returns
 returns c =
     λ g l o room.

@@ -39,11 +39,6 @@ insert_word-requires-2 c =
     let k = room_here c.requires.0 in
     omega arith
 
-pub overflow_add-count : goal.overflow_add-count
-overflow_add-count c =
-    let k = room_here c.requires.0 in
-    omega arith
-
 pub set_len-requires : goal.set_len-requires
 set_len-requires c =
     let k = room_here c.requires.0 in

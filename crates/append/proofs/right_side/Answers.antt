@@ -19,9 +19,6 @@ known c s = c.loop-level.invariant s.rest s.height s.way s.tree s.next s.room (f
 pub take_node-leaf-requires : goal.take_node-leaf-requires
 take_node-leaf-requires c = let s = c.requires in leaf_has s.way s.tree s.next s.held (omega (arith, s.some, s.room))
 
-pub loop-level-init : goal.loop-level-init
-loop-level-init c = λ g h c x n r b. b
-
 pub new_internal-top-requires : goal.new_internal-top-requires
 new_internal-top-requires c =
     let s = c.requires in

@@ -4,7 +4,7 @@
 use Rattle.std.proofs.Common.{ℕ, suc, ◌+◌, List, arith}
 use Rattle.model.specs.Layout.{NodeVal, Arena}
 use Rattle.counting.specs.Counting.{TreeIn, Upto}
-use Rattle.counting.proofs.Counts.{none_yet, here_known, there, next_tree, next_done, all_done, leaf_tree, leaf_done, inner_tree, inner_due, inner_done}
+use Rattle.counting.proofs.Counts.{none_yet, here_known, there, next_tree, next_done, all_done, leaf_done, inner_tree, inner_due, inner_done}
 use Rattle.counting.proofs.+count_edges_count_node.Goals as goal
 use Rattle.counting.proofs.+count_edges_count_node.Goals.{count_edges-After-count_node}
 
@@ -35,11 +35,6 @@ count_edges-loop-i-preserved t c = counted (goal.at.count_edges-loop-i-preserved
 
 pub count_edges-returns-2 : goal.count_edges-returns-2
 count_edges-returns-2 t c = λ hd ns K a. all_done K a (counted (goal.at.count_edges-returns-2 t c).After-count_node hd ns K a) (omega (arith, c.len-last.ensures, (here_known K a).1))
-
-pub count_node-count_leaf-requires : goal.count_node-count_leaf-requires
-count_node-count_leaf-requires t c =
-    let q = c.requires in
-    record { head = _; nodes = q.nodes; arena = q.arena; holds = leaf_tree q.arena _ c.if-below-eq0.true q.holds }
 
 pub count_node-returns-then-below-eq0 : goal.count_node-returns-then-below-eq0
 count_node-returns-then-below-eq0 t c = λ hd ns K a. leaf_done a _ c.if-below-eq0.true K c.count_leaf.ensures

@@ -15,9 +15,6 @@ use Rattle.insert.proofs.nodes_needed.Goals.{At-loop-node, In-Some, at-In-Some}
 known : (c : At-loop-node) → Counting (needed c.requires.there.way) c.requires.state c.loop-node.node.0 c.loop-node.count
 known c = let q = c.requires in c.loop-node.invariant _ q.state q.holds (count_start q.holds c.args.edge q.there)
 
-pub loop-node-init : goal.loop-node-init
-loop-node-init c = λ total s o k. k
-
 pub len-requires : goal.len-requires
 len-requires c = count_within c.requires.holds _ _ _ (known c)
 

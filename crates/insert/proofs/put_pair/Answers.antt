@@ -4,7 +4,6 @@ use Rattle.std.proofs.Common.{refl}
 use Rattle.model.specs.State.{State}
 use Rattle.model.specs.Promise.{Holds}
 use Rattle.model.proofs.Forward.{forward}
-use Rattle.header.proofs.Headed.{headed}
 use Rattle.insert.proofs.Ends.{PairIn, GapIn, pair_in, gap_in, replace_in, replaced_in, lacking, enough, added_in}
 use Rattle.insert.proofs.put_pair.Goals as goal
 use Rattle.insert.proofs.put_pair.Goals.{In-Found, In-GoDown}
@@ -25,9 +24,6 @@ replace_kv-old-requires c =
 
 pub returns-in-Found : goal.returns-in-Found
 returns-in-Found c = λ s o. let x = c.args in replaced_in o x.kv.0 x.kv.1 _ (there (goal.at.returns-in-Found c).In-Found s o) _ _ c.replace_kv-old.ensures
-
-pub free_nodes-free-requires : goal.free_nodes-free-requires
-free_nodes-free-requires c = headed c.requires
 
 pub nodes_needed-need-requires : goal.nodes_needed-need-requires
 nodes_needed-need-requires c =

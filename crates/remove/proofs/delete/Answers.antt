@@ -7,16 +7,11 @@ use Rattle.model.specs.State.{State}
 use Rattle.model.specs.Search as model
 use Rattle.model.specs.Promise.{Holds}
 use Rattle.model.proofs.Forward.{forward}
-use Rattle.model.proofs.Ends.{stays, does_as}
+use Rattle.model.proofs.Ends.{does_as}
 use Rattle.navigate.proofs.Pairs.{Placed, search_placed}
-use Rattle.remove.proofs.Inner.{deleted_absent, deleted_there}
+use Rattle.remove.proofs.Inner.{deleted_there}
 use Rattle.remove.proofs.delete.Goals as goal
 use Rattle.remove.proofs.delete.Goals.{In-Found}
-
-pub returns-in_default : goal.returns-in_default
-returns-in_default c =
-    λ s o.
-    stays o (deleted_absent s (model.search c.args.key s.whole) _ (sym c.in_default.is ∙ c.search_tree.ensures s o))
 
 -- the pair's place, in whatever state the words hold
 placed : (c : In-Found) {s : State} → Holds c.args.a.now s → Placed s (model.search c.args.key s.whole) c.in-Found.kv

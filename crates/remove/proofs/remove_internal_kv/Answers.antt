@@ -20,9 +20,6 @@ use Rattle.remove.proofs.remove_internal_kv.Goals.{After-remove_leaf_kv-left_kv,
 pub key-k-requires : goal.key-k-requires
 key-k-requires c = let p = c.requires in kv_within _ p.there.kv p.holds
 
-pub next_back_leaf_edge-edge-requires : goal.next_back_leaf_edge-edge-requires
-next_back_leaf_edge-edge-requires c = let p = c.requires in record { state = p.state; holds = p.holds; there = p.there.kv }
-
 pub overflow_sub-edge : goal.overflow_sub-edge
 overflow_sub-edge c = let p = c.requires in omega (arith, edge_some p.holds p.there _ (c.next_back_leaf_edge-edge.ensures p.state p.holds p.there.kv))
 
@@ -69,9 +66,6 @@ returns-then-has_key c =
     let l = (b.remove_leaf_kv-left_kv.ensures s o (left_kv o y _ q)).0 in
     (inner_was o y _ q k _ (key_is (goal.at.returns-then-has_key c).After-remove_leaf_kv-left_kv o y) _ f l c.replace_kv.ensures, inner_holds o y _ q k _ (key_is (goal.at.returns-then-has_key c).After-remove_leaf_kv-left_kv o y) _ f l c.replace_kv.ensures)
 
-pub shape_of-a-then-has_key : goal.shape_of-a-then-has_key
-shape_of-a-then-has_key c = let p = c.requires in same_long p.holds (returns-then-has_key c p.state p.holds p.there).1 refl
-
 pub search_tree-requires : goal.search_tree-requires
 search_tree-requires c = let p = c.requires in backward _ _ (between (goal.at.search_tree-requires c).After-remove_leaf_kv-left_kv p.holds p.there)
 
@@ -80,9 +74,6 @@ returns-in_default c =
     λ s o y.
     let k = between (goal.at.returns-in_default c).After-remove_leaf_kv-left_kv o y in
     absurd (still_there o y _ (c.next_back_leaf_edge-edge.ensures s o y.kv) k _ (key_is (goal.at.returns-in_default c).After-remove_leaf_kv-left_kv o y) _ (sym c.in_default.is ∙ c.search_tree.ensures _ k))
-
-pub shape_of-a-in_default : goal.shape_of-a-in_default
-shape_of-a-in_default c = let p = c.requires in same_long p.holds (returns-in_default c p.state p.holds p.there).1 refl
 
 pub replace_kv-requires-2 : goal.replace_kv-requires-2
 replace_kv-requires-2 c =
@@ -99,6 +90,3 @@ returns c =
     let f = sym c.in-Found.is ∙ c.search_tree.ensures _ k in
     let l = (b.remove_leaf_kv-left_kv.ensures s o (left_kv o y _ q)).0 in
     (inner_was o y _ q k _ (key_is (goal.at.returns c).After-remove_leaf_kv-left_kv o y) _ f l c.replace_kv-2.ensures, inner_holds o y _ q k _ (key_is (goal.at.returns c).After-remove_leaf_kv-left_kv o y) _ f l c.replace_kv-2.ensures)
-
-pub shape_of-a : goal.shape_of-a
-shape_of-a c = let p = c.requires in same_long p.holds (returns c p.state p.holds p.there).1 refl

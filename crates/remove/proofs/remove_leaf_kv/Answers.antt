@@ -8,12 +8,9 @@ use Rattle.standing.specs.Heads.{rest_of, ClosedIn}
 use Rattle.fix.specs.Repairs.{Emptied}
 use Rattle.remove.specs.Removals.{LeafKv, without}
 use Rattle.fix.proofs.Emptying.{repaired, unrepaired, emptied_long, emptied_stays, emptied_in, emptied_popped}
-use Rattle.remove.proofs.Leaving.{there, leaf_taken, pairs_word_is, leaf_mending, leaf_holds, leaf_end}
+use Rattle.remove.proofs.Leaving.{leaf_taken, pairs_word_is, leaf_mending, leaf_holds, leaf_end}
 use Rattle.remove.proofs.remove_leaf_kv.Goals as goal
 use Rattle.remove.proofs.remove_leaf_kv.Goals.{After-fix_node_and_affected_ancestors, else-not-fix_node_and_affected_ancestors-via-then-not-fix_node_and_affected_ancestors+else-height-gt0, else-not-fix_node_and_affected_ancestors-via-else-not-fix_node_and_affected_ancestors}
-
-pub take_pair-old-requires : goal.take_pair-old-requires
-take_pair-old-requires c = let p = c.requires in record { state = _; holds = p.holds; there = there p.holds p.there }
 
 pub count_off-requires : goal.count_off-requires
 count_off-requires c =
