@@ -17,7 +17,7 @@ use Rattle.model.specs.Mark.{seen_of, mark_of}
 use Rattle.model.specs.State.{State, list, delete_at}
 use Rattle.model.specs.Sound.{Sound}
 use Rattle.model.specs.Promise.{Holds}
-use Rattle.model.specs.declared.Answer.TheVariants.{Value, Absent}
+use Rattle.model.specs.declared.Answer.TheVariants.{Value}
 use Rattle.model.proofs.Rising.{rising_below}
 use Rattle.model.proofs.Sizes.{Len, FullWhole, of_full, unplug_full}
 use Rattle.model.proofs.Descent.{Sought, last_before, search_right}
@@ -261,10 +261,6 @@ as_leaf {s} {d} y z = let t = go d.height y.ctx y.no y.left y.hole y.item y.righ
     go (suc h) c n l e x r w en ea z = absurd (omega arith)
 
 -- ---- what a search's end answers to a delete
-
-pub deleted_absent : (s : State) (z : Spot) (d : Handle) → GoDown d ≡ spotted z → delete_at s z ≡ record { answer = Absent; state = s }
-deleted_absent s (gap c) d e = refl
-deleted_absent s (at c n l x y r) d e = let z : ◌≡◌ {A = ℕ} 0 1 = cc in absurd (omega arith)
 
 pub deleted_there : {s : State} {z : Spot} {d : Handle} (q : Placed s z d) → delete_at s z ≡ record { answer = Value q.kv.item.pair.val; state = removed s q.kv }
 deleted_there {s} q = ap (delete_at s) q.same
