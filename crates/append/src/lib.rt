@@ -141,6 +141,7 @@ pub fn push(a: &mut [u64], leaf: NodeNo, kv: Kv) -> NodeNo
 }
 
 // A node's last child is stocked to 5 from its left neighbour. Answers the last child.
+// Stays a context made here: border's consider_for_balancing, made public with its edits, and a crate more to use would be no plainer.
 fn stock_right_child(a: &mut [u64], node: NodeNo) -> NodeNo
     requires { StocksIn a.old node.0 }
     ensures { (h : ℕ) (g : Rest) (t : Whole) (free : List ℕ) → Stocks a.old g node.0 (suc h) t free → Stocks a.new g result.0 h t free }
