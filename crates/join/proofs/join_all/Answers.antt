@@ -1,7 +1,7 @@
 use Rattle.std.proofs.Common.{◌*◌, ◌-◌, ◌≤◌, ◌<◌, arith, ◌≡◌, refl, sym, ap, ap₂, ◌∙◌, subst, List, [], length, take}
 use Rattle.model.specs.Lists.{All}
 use Rattle.model.specs.Tree.{Pair}
-use Rattle.model.specs.Mark.{Covers, higher}
+use Rattle.model.specs.Mark.{Mark, Covers, higher}
 use Rattle.model.specs.State.{State}
 use Rattle.model.specs.Load.{pairs_of, loaded_with}
 use Rattle.model.specs.Join.{joined_run}
@@ -61,6 +61,6 @@ returns c = λ s t h g.
     let b = c.stored_mark-mark.ensures ∙ stored_mark_is g in
     let e : marked c.max-most.result ≡ higher s.mark t.mark = ap marked c.max-most.ensures ∙ higher_marked c.stored_mark.result c.stored_mark-mark.result ∙ ap₂ higher (c.stored_mark.ensures ∙ stored_mark_is h) b in (
       rw e at (c.load_anew.ensures s.size (anew m h g) (rw e (covers m h g))) ∙ ap (λ (ps : List Pair). words_of (loaded_with (higher s.mark t.mark) s.size ps)) (pairs_are m h g),
-      rw b at (c.load_anew-2.ensures t.size (anew_empty g [] refl) tt) ∙ ap words_of (emptied_is t),
+      c.load_anew-2.ensures t.size (anew_empty g [] refl) tt ∙ ap (λ (k : Mark). words_of (loaded_with k t.size [])) b ∙ ap words_of (emptied_is t),
       (m.merge_into-words.ensures s t h g).0,
     )
