@@ -147,7 +147,7 @@ pub fn set_free_nodes(a: &mut [u64], first: u64, nodes: usize)
 }
 
 // 1 if a mark was seen, and the mark, which is 0 until then.
-// Stays two words: the checker reads them before they are known to be a mark; all others read stored_mark.
+// Stays two words: the checker reads them before they are known to be a mark, cut hands both on; others read stored_mark.
 pub fn seen(a: &[u64]) -> u64
     requires { header_size ≤ length a.now }
     ensures { result ≡ header a.now seen_word }
