@@ -3,6 +3,7 @@
 #![tactic(auto)]
 
 ghost use Rattle.std.specs.Prelude.{◌≡◌, ◌+◌, ◌*◌, ◌<◌, ◌≤◌, length};
+ghost use Rattle.ranges.specs.Bounds.{tried_bounds};
 
 use format::format;
 use listing::list;
@@ -16,21 +17,25 @@ use telling::{say, say_line};
 const LONG: usize = 595;
 
 // The bounds at either end, in the order in which they are tried.
-const BOUNDS: [SearchBound; 13] = [
-    SearchBound::Included(1),
-    SearchBound::Included(5),
-    SearchBound::Included(6),
-    SearchBound::Included(70),
-    SearchBound::Included(72),
-    SearchBound::Included(142),
-    SearchBound::Excluded(1),
-    SearchBound::Excluded(5),
-    SearchBound::Excluded(6),
-    SearchBound::Excluded(70),
-    SearchBound::Excluded(72),
-    SearchBound::Excluded(142),
-    SearchBound::AllIncluded,
-];
+fn bounds() -> [SearchBound; 13]
+    ensures { result ≡ tried_bounds }
+{
+    [
+        SearchBound::Included(1),
+        SearchBound::Included(5),
+        SearchBound::Included(6),
+        SearchBound::Included(70),
+        SearchBound::Included(72),
+        SearchBound::Included(142),
+        SearchBound::Excluded(1),
+        SearchBound::Excluded(5),
+        SearchBound::Excluded(6),
+        SearchBound::Excluded(70),
+        SearchBound::Excluded(72),
+        SearchBound::Excluded(142),
+        SearchBound::AllIncluded,
+    ]
+}
 
 // Five pairs in a node, or fewer, the keys in even steps.
 fn pairs(a: &mut [u64; LONG], n: usize, len: usize, first: u64, step: u64)
@@ -102,14 +107,14 @@ fn both(rt: &impl Print, a: &[u64], start: SearchBound, end: SearchBound) -> io:
 }
 
 fn ends(rt: &impl Print, a: &[u64], start: SearchBound) -> io::Result<()> {
-    for end in BOUNDS {
+    for end in bounds() {
         both(rt, a, start, end)?;
     }
     Ok(())
 }
 
 fn starts(rt: &impl Print, a: &[u64]) -> io::Result<()> {
-    for start in BOUNDS {
+    for start in bounds() {
         ends(rt, a, start)?;
     }
     Ok(())

@@ -15,6 +15,7 @@ use checker::{check, well_formed};
 use header::SEEN;
 use model::Refused;
 use node::HEADER;
+use slices::copy_from_slice;
 
 // The mark rises to the image's, where that is higher.
 fn raise_to(a: &mut [u64], image: &[u64])
@@ -32,8 +33,8 @@ fn copy_but_mark(a: &mut [u64], image: &[u64])
     ensures { a.new ≡ set (set image.now seen_word (header a.old seen_word)) mark_word (header a.old mark_word) }
 {
     let before = SEEN;
-    a[..before].copy_from_slice(&image[..before]);
-    a[HEADER..].copy_from_slice(&image[HEADER..]);
+    copy_from_slice(&mut a[..before], &image[..before]);
+    copy_from_slice(&mut a[HEADER..], &image[HEADER..]);
 }
 
 // Whether an image's mark is lower than the arena's, which was seen.

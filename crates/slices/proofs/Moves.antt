@@ -1,8 +1,8 @@
 -- What a word put in or taken out leaves, where the words after it are copied by one place.
 -- Assumes nothing.
-use Rattle.std.proofs.Common.{◌≡◌, refl, sym, ap, ◌∙◌, ℕ, zero, suc, ◌+◌, ◌-◌, ◌<◌, List, [], ◌∷◌, ◌++◌, length, take, drop, set, arith, get_or, append-nil, add-one, length-append, length-drop, drop-cons}
+use Rattle.std.proofs.Common.{◌≡◌, refl, sym, ap, ◌∙◌, ℕ, zero, suc, ◌+◌, ◌-◌, ◌<◌, ◌≤◌, List, [], ◌∷◌, ◌++◌, length, take, drop, set, arith, get_or, append-nil, add-one, length-append, length-drop, drop-cons}
 use lib.ListN.{drop_of_length-le}
-use lib.Seq.{paste, take_all, set_at, length-take-le, drop-drop}
+use lib.Seq.{paste, paste-zero, take_all, set_at, length-take-le, drop-drop}
 use Rattle.model.specs.Lists.{insert_at}
 use Rattle.slices.specs.Words.{remove_at}
 use Rattle.slices.proofs.Laws.{take_on}
@@ -23,6 +23,13 @@ inserted_at s i v h =
     ∙ ap (λ (l : List ℕ). set l i v) (append-nil (take (i + 1) s ++ take m (drop i s)))
     ∙ (ap (λ (k : ℕ). set (take k s ++ take m (drop i s)) i v) (add-one i) ∙ set_last s (take m (drop i s)) i v h)
     ∙ sym (ap (λ (k : ℕ). take k (take i s ++ v ∷ drop i s)) e ∙ take_on (take i s) (v ∷ drop i s) i (suc m) (length-take-le i s (omega arith)))
+
+-- at the last place there is nothing to copy
+pub inserted_last : (s : List ℕ) (i v : ℕ) → i < length s → length s - 1 ≤ i → set s i v ≡ take (length s) (insert_at s i v)
+inserted_last s i v h g =
+    let none : length s - 1 - i ≡ zero = omega arith in
+    ap (λ (l : List ℕ). set l i v) (paste-zero s (i + 1) (drop i s) ∙ ap (λ (n : ℕ). paste s (i + 1) (drop i s) n) (sym none))
+    ∙ inserted_at s i v h
 
 -- the words after i were copied down by one, and the last one was cleared
 pub removed_at : (s : List ℕ) (i : ℕ) → i < length s → set (paste s i (drop (i + 1) s) (length s - (i + 1))) (length s - 1) 0 ≡ remove_at s i ++ 0 ∷ []

@@ -14,13 +14,14 @@ use counting::count_node;
 use header::FORMAT;
 use model::{Layout, Refused};
 use node::{HEADER, NodeNo, TOTAL, WORDS, node_base};
+use slices::copy_from_slice;
 
 // The header's words, with the number of format 2.
 fn copy_header(to: &mut [u64], from: &[u64])
     requires { (length from.now ≡ header_size) × (length to.old ≡ header_size) }
     ensures { to.new ≡ set from.now format_word format_number }
 {
-    to.copy_from_slice(from);
+    copy_from_slice(to, from);
     to[FORMAT] = 2;
 }
 
@@ -29,7 +30,7 @@ fn copy_node(to: &mut [u64], from: &[u64])
     requires { (length from.now ≡ total_word) × (length to.old ≡ node_size) }
     ensures { to.new ≡ from.now ++ (0 ∷ []) }
 {
-    to[..TOTAL].copy_from_slice(from);
+    copy_from_slice(&mut to[..TOTAL], from);
     to[TOTAL] = 0;
 }
 

@@ -32,19 +32,19 @@ right_side-right-requires c =
     let q = c.requires.0 in
     roomy_place (roomy (goal.at.right_side-right-requires c).After-open_node-open q.rest q.so_far q.load q.room)
 
-pub len-requires : goal.len-requires
-len-requires c =
+pub len-count-requires : goal.len-count-requires
+len-count-requires c =
     let q = c.requires.0 in
-    open_within (roomy (goal.at.len-requires c).After-open_node-open q.rest q.so_far q.load q.room) (built (goal.at.len-requires c).After-right_side-right q.rest q.so_far q.load q.room).1
+    open_within (roomy (goal.at.len-count-requires c).After-open_node-open q.rest q.so_far q.load q.room) (built (goal.at.len-count-requires c).After-right_side-right q.rest q.so_far q.load q.room).1
 
-pub insert_fit-requires : goal.insert_fit-requires
-insert_fit-requires c =
+pub push_edge-requires : goal.push_edge-requires
+push_edge-requires c =
     let q = c.requires.0 in
-    open_fit (roomy (goal.at.insert_fit-requires c).After-open_node-open q.rest q.so_far q.load q.room) (built (goal.at.insert_fit-requires c).After-right_side-right q.rest q.so_far q.load q.room).1 _ c.len.ensures
+    (open_fit (roomy (goal.at.push_edge-requires c).After-open_node-open q.rest q.so_far q.load q.room) (built (goal.at.push_edge-requires c).After-right_side-right q.rest q.so_far q.load q.room).1 _ c.len-count.ensures, c.len-count.ensures)
 
 pub returns : goal.returns
 returns c =
     λ g l o room.
     let k = roomy (goal.at.returns c).After-open_node-open g l o room in
     let b = built (goal.at.returns c).After-right_side-right g l o room in
-    rw b.0 (open_done k b.1 _ c.len.ensures (climb_filling l.way tt _ l.next o.filling tt) _ c.insert_fit.ensures)
+    rw b.0 (open_done k b.1 _ c.len-count.ensures (climb_filling l.way tt _ l.next o.filling tt) _ c.push_edge.ensures)

@@ -5,4 +5,4 @@ use Rattle.model.specs.Layout.{format_word, format_number}
 use Rattle.upgrade.proofs.copy_header.Goals as goal
 
 pub returns : goal.returns
-returns c = ap (λ (l : List ℕ). set l format_word format_number) c.copy_from_slice.ensures.after
+returns c = ap (λ (l : List ℕ). set l format_word format_number) c.copy_from_slice.ensures

@@ -9,7 +9,7 @@ pub slice_bounds-copy_from_slice-end-2 : goal.slice_bounds-copy_from_slice-end-2
 slice_bounds-copy_from_slice-end-2 c = sym (length-take-le total_word c.args.to.now (omega (arith, c.requires.1)))
 
 pub copy_from_slice-requires : goal.copy_from_slice-requires
-copy_from_slice-requires c = length-take-le total_word c.args.to.now (omega (arith, c.requires.1)) ∙ sym c.requires.0
+copy_from_slice-requires c = c.requires.0 ∙ sym (length-take-le total_word c.args.to.now (omega (arith, c.requires.1)))
 
 pub returns : goal.returns
-returns c = let x = c in ap (λ (l : List ℕ). set (l ++ drop total_word x.args.to.now) total_word 0) c.copy_from_slice.ensures.after ∙ node_words_lem x.args.from.now x.args.to.now x.requires.0 x.requires.1
+returns c = let x = c in ap (λ (l : List ℕ). set (l ++ drop total_word x.args.to.now) total_word 0) c.copy_from_slice.ensures ∙ node_words_lem x.args.from.now x.args.to.now x.requires.0 x.requires.1

@@ -1,0 +1,3 @@
+-- The files of this crate's definitions.
+-- Assumes nothing.
+pub mod Bounds
