@@ -94,7 +94,7 @@ fn push_pair(a: &mut [u64], n: NodeNo, count: usize, kv: Kv)
 }
 
 // The same with an edge right of it, in an internal node.
-// Stays beside internal::insert_fit: too slow, since that one moves eleven words of two columns, and a load took 1.3 times the instructions.
+// Stays beside internal::insert_fit: too slow, since that one writes eleven words of two columns, and a load took 1.5 times the instructions.
 fn push_edge(a: &mut [u64], n: NodeNo, count: usize, kv: Kv, right: NodeNo)
     requires { Has a.old (λ h ns. FitReady ns n.0 count right.0) × (count ≡ word_at a.old n.0 length_word) }
     ensures { (h : List ℕ) (ns : List NodeVal) → FitReady ns n.0 count right.0 → Arena a.old h ns → Arena a.new h (fit_nodes ns n.0 count (pair_of kv) right.0) }

@@ -6,7 +6,7 @@ ghost use Rattle.model.specs.Lists.{insert_at};
 ghost use Rattle.slices.specs.Words.{moved, remove_at};
 
 // Puts val in before index idx; the words from there move up by one, and the last one is dropped.
-// The test is for a load: it puts its words in at the last place, where none moves, and without the test took a sixth more instructions.
+// Where it is put in last, as a load does, no word moves and none is asked to.
 pub fn slice_insert(s: &mut [u64], idx: usize, val: u64)
     requires { idx < length s.old }
     ensures { s.new ≡ take (length s.old) (insert_at s.old idx val) }
